@@ -1,0 +1,63 @@
+-- The answer of "read a tree" for every text and every table length, in document 01's numbers. S is the set of string bytes. Assumes nothing.
+use Prim.Native.Nat.{ℕ, suc}
+use mathlib.Core.Bool.{Bool, cond}
+use mathlib.Core.List.{List, []}
+use lib.ListN.{length}
+use lib.Dec.{ltb}
+use Rattle.cel_text.specs.Byte.{Text, ascii, lead, stringByte}
+use Rattle.cel_text.specs.Tree.{Tree, nodes, depth}
+use Rattle.cel_text.specs.Reading.{Fault, syntax, tooDeep, tooMany, Outcome, accepted, refused, read, limits}
+use Rattle.cel_text.specs.Table.{Words, rows, nodeWords, nodesLeft, hold}
+
+-- "Text 8,192 bytes"
+abbrev pub maxText : ℕ
+maxText = 8192
+
+-- "An answer is four numbers: refusal, name, expected kind, place"; "Beside it stand nodes and greatest depth"
+pub record Answer : Type 0 where
+  pub refusal : ℕ
+  pub name : ℕ
+  pub kind : ℕ
+  pub place : ℕ
+  pub nodes : ℕ
+  pub depth : ℕ
+
+-- "4 syntax", "5 container opened at depth 33", "6 257th node opened"
+abbrev pub faultNumber : Fault → ℕ
+faultNumber syntax = 4
+faultNumber tooDeep = 5
+faultNumber tooMany = 6
+
+-- a tree and the place after it, or a refusal of 1 to 6 and its place
+pub data Found : Type 0 where
+  tree : Tree → ℕ → Found
+  fault : (refusal place : ℕ) → Found
+
+abbrev pub found : Outcome → Found
+found (accepted t q) = tree t q
+found (refused f p) = fault (faultNumber f) p
+
+-- "1, 2, 3 come first, in that order. Then the lowest place wins"; w is the lent table's length
+abbrev pub findTree : (ℕ → Bool) → (w : ℕ) → Text → Found
+findTree S w x =
+    cond (ltb w nodeWords) (fault 1 0)
+    (cond (ltb maxText (length x)) (fault 2 maxText)
+    (cond (ltb (lead ascii x) (length x)) (fault 3 (lead ascii x))
+    (found (read S limits x))))
+
+-- "0 where unused"; nodes and depth "both 0 for refusals 1 to 6"
+abbrev pub answered : Found → Answer
+answered (tree t q) = record { refusal = 0; name = 0; kind = 0; place = 0; nodes = nodes t; depth = depth t }
+answered (fault r p) = record { refusal = r; name = 0; kind = 0; place = p; nodes = 0; depth = 0 }
+
+-- what the lent node table holds afterwards
+abbrev pub nodesAfter : Found → Words → Words
+nodesAfter (tree t q) lent = hold (nodesLeft 0) nodeWords (rows t) lent
+nodesAfter (fault r p) lent = hold (nodesLeft r) nodeWords [] lent
+
+-- reading a tree: the answer, and the node table afterwards
+unfoldable pub treeAnswer : (w : ℕ) → Text → Answer
+treeAnswer w x = answered (findTree stringByte w x)
+
+unfoldable pub treeTable : Text → Words → Words
+treeTable x lent = nodesAfter (findTree stringByte (length lent) x) lent

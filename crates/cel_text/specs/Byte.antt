@@ -1,0 +1,60 @@
+-- Bytes, as document 01's section "Grammar" names them. A text is a list of bytes and a byte is a number. Assumes nothing.
+use Prim.Native.Nat.{ℕ, suc}
+use mathlib.Core.Bool.{Bool, cond, _&&_, _||_}
+use mathlib.Core.List.{List, [], _∷_, _++_}
+use lib.Dec.{T, leb, ltb, eqb}
+
+abbrev pub Text : Type 0
+Text = List ℕ
+
+-- texts one after the other, bracketed to the right
+infixr 66 _⧺_
+abbrev pub _⧺_ : Text → Text → Text
+x ⧺ y = x ++ y
+
+-- "Blank: space, tab, LF, CR"
+unfoldable pub blank : ℕ → Bool
+blank b = eqb b 32 || eqb b 9 || eqb b 10 || eqb b 13
+
+-- "ASCII letters, digits"
+unfoldable pub alphanumeric : ℕ → Bool
+alphanumeric b = leb 48 b && leb b 57 || leb 65 b && leb b 90 || leb 97 b && leb b 122
+
+-- "An identifier is a run, perhaps empty, of ASCII letters, digits and `_`."
+unfoldable pub identByte : ℕ → Bool
+unfolding alphanumeric
+identByte b = alphanumeric b || eqb b 95
+
+-- "A string byte is an ASCII letter, digit or `-`; `_` isn't one."
+unfoldable pub stringByte : ℕ → Bool
+unfolding alphanumeric
+stringByte b = alphanumeric b || eqb b 45
+
+-- a byte below 128
+unfoldable pub ascii : ℕ → Bool
+ascii b = ltb b 128
+
+-- how many bytes of one class x begins with
+abbrev pub lead : (ℕ → Bool) → Text → ℕ
+lead f [] = 0
+lead f (b ∷ bs) = cond (f b) (suc (lead f bs)) 0
+
+-- a run, perhaps empty, of bytes of one class
+pub data Run (f : ℕ → Bool) : Text → Type 0 where
+  over : Run f []
+  byte : {b : ℕ} {bs : Text} → T (f b) → Run f bs → Run f (b ∷ bs)
+
+abbrev pub Blanks : Text → Type 0
+Blanks x = Run blank x
+
+abbrev pub Identifier : Text → Type 0
+Identifier x = Run identByte x
+
+abbrev pub quote : ℕ
+quote = 34
+
+abbrev pub comma : ℕ
+comma = 44
+
+abbrev pub colon : ℕ
+colon = 58

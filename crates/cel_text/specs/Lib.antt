@@ -1,0 +1,6 @@
+pub mod Byte
+pub mod Tree
+pub mod Grammar
+pub mod Reading
+pub mod Table
+pub mod Answer

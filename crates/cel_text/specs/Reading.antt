@@ -1,0 +1,161 @@
+-- Reading, as a function that computes: a machine that takes a text byte by byte. A state is what is being read and the
+-- containers that are open around it. S is the set of string bytes, L the limits. Assumes nothing.
+use Prim.Native.Nat.{ℕ, suc, _+_}
+use mathlib.Core.Bool.{Bool, false, cond}
+use mathlib.Core.List.{List, [], _∷_}
+use lib.Dec.{eqb}
+use Rattle.cel_text.specs.Byte.{Text, blank, identByte, quote, comma, colon}
+use Rattle.cel_text.specs.Tree.{Kind, array, object, function, opener, closer, Key, unkeyed, key, Tree, string, container, Trees, ∅, _▸_∶_, nodesAll}
+
+-- limits: whether a container may not open at this depth; whether a node may not open when so many have
+pub record Limits : Type 0 where
+  pub deep : ℕ → Bool
+  pub many : ℕ → Bool
+
+-- a container that is open: its kind, its opener's place, its name's ends, its children so far, and the key of the child that comes next
+pub record Frame : Type 0 where
+  pub kind : Kind
+  pub o : ℕ
+  pub from : ℕ
+  pub to : ℕ
+  pub children : Trees
+  pub next : Key
+
+-- the open containers, the innermost at hand
+pub data Stack : Type 0 where
+  root : Stack
+  inside : Stack → Frame → Stack
+
+-- at what depth a value in K stands
+abbrev pub level : Stack → ℕ
+level root = 0
+level (inside K f) = suc (level K)
+
+-- how many nodes have opened
+abbrev pub opened : Stack → ℕ
+opened root = 0
+opened (inside K f) = suc (opened K + nodesAll (f .children))
+
+-- what is due: a value, or an entry, which begins with its key
+pub data Due : Type 0 where
+  value : Stack → Due
+  entry : Stack → Frame → Due
+
+-- what is being read
+pub data State : Type 0 where
+  before : Due → State                 -- the blanks before it
+  naming : Due → (from : ℕ) → State    -- the identifier
+  named : Due → (from to : ℕ) → State  -- the blanks after the identifier
+  quoted : Stack → (o : ℕ) → State     -- a string's content
+  dropping : Stack → (o to : ℕ) → State -- the blanks after a string's content
+  begun : Stack → Frame → State        -- the blanks after a container's opener
+  after : Stack → Frame → State        -- the blanks after a container's child
+
+pub data Fault : Type 0 where
+  syntax tooDeep tooMany : Fault
+
+-- what a byte does
+pub data Step : Type 0 where
+  go : State → Step
+  done : Tree → Step
+  refuse : Fault → Step
+
+-- a container, opened and closed
+abbrev pub fresh : Kind → (o from to : ℕ) → Frame
+fresh c o from to = record { kind = c; o = o; from = from; to = to; children = ∅; next = unkeyed }
+
+abbrev pub closed : Frame → ℕ → Tree
+closed f q = container (f .kind) (f .o) (f .from) (f .to) q (f .children)
+
+abbrev pub withKey : Frame → Key → Frame
+withKey f k = record { kind = f .kind; o = f .o; from = f .from; to = f .to; children = f .children; next = k }
+
+abbrev pub withChild : Frame → Tree → Frame
+withChild f t = record { kind = f .kind; o = f .o; from = f .from; to = f .to; children = f .children ▸ f .next ∶ t; next = unkeyed }
+
+-- the value t is whole: it is the text's, or the innermost container's next child
+abbrev pub whole : Stack → Tree → Step
+whole root t = done t
+whole (inside K f) t = go (after K (withChild f t))
+
+-- "Arrays and functions hold values, objects hold entries"
+abbrev pub child : Kind → Stack → Frame → Due
+child array K f = value (inside K f)
+child function K f = value (inside K f)
+child object K f = entry K f
+
+module _ (S : ℕ → Bool) (L : Limits) where
+  -- a container or a string opens at place p; "at one place 5 comes before 6"
+  unfoldable pub enter : Kind → Stack → (from to p : ℕ) → Step
+  enter c K from to p =
+      cond (L .deep (suc (level K))) (refuse tooDeep) (cond (L .many (opened K)) (refuse tooMany) (go (begun K (fresh c p from to))))
+
+  unfoldable pub enterString : Stack → ℕ → Step
+  enterString K p = cond (L .many (opened K)) (refuse tooMany) (go (quoted K p))
+
+  -- the byte b at place p, after an identifier and blanks: "`{` (object) or `(` (function)", or an entry's `:`
+  unfoldable pub past : Due → (from to p b : ℕ) → Step
+  past (value K) from to p b =
+      cond (eqb b (opener object)) (enter object K from to p) (cond (eqb b (opener function)) (enter function K from to p) (refuse syntax))
+  past (entry K f) from to p b = cond (eqb b colon) (go (before (value (inside K (withKey f (key from to)))))) (refuse syntax)
+
+  -- the same where the identifier is empty: "also `[` (array) or `"` (string)"
+  unfoldable pub bare : Due → (p b : ℕ) → Step
+  bare (value K) p b = cond (eqb b (opener array)) (enter array K 0 0 p) (cond (eqb b quote) (enterString K p) (past (value K) p p p b))
+  bare (entry K f) p b = past (entry K f) p p p b
+
+  unfoldable pub start : Due → (p b : ℕ) → Step
+  start w p b = cond (blank b) (go (before w)) (cond (identByte b) (go (naming w p)) (bare w p b))
+
+  -- after a string's content: "blanks, `"`"
+  unfoldable pub unquote : Stack → (o to p b : ℕ) → Step
+  unquote K o to p b = cond (blank b) (go (dropping K o to)) (cond (eqb b quote) (whole K (string o to (suc p))) (refuse syntax))
+
+  -- what the byte b at place p does
+  unfoldable pub step : State → (p b : ℕ) → Step
+  step (before w) p b = start w p b
+  step (naming w from) p b = cond (identByte b) (go (naming w from)) (cond (blank b) (go (named w from p)) (past w from p p b))
+  step (named w from to) p b = cond (blank b) (go (named w from to)) (past w from to p b)
+  step (quoted K o) p b = cond (S b) (go (quoted K o)) (unquote K o p p b)
+  step (dropping K o to) p b = unquote K o to p b
+  step (begun K f) p b =
+      cond (blank b) (go (begun K f)) (cond (eqb b (closer (f .kind))) (whole K (closed f (suc p))) (start (child (f .kind) K f) p b))
+  step (after K f) p b =
+      cond (blank b) (go (after K f))
+      (cond (eqb b comma) (go (before (child (f .kind) K f)))
+      (cond (eqb b (closer (f .kind))) (whole K (closed f (suc p))) (refuse syntax)))
+
+-- what reading gives: the tree and the place after it, or the fault and its place
+pub data Outcome : Type 0 where
+  accepted : Tree → ℕ → Outcome
+  refused : Fault → ℕ → Outcome
+
+-- what follows a step made at place p, where `on` reads on
+abbrev pub follow : Step → ℕ → (State → Outcome) → Outcome
+follow (go st) p on = on st
+follow (done t) p on = accepted t (suc p)
+follow (refuse f) p on = refused f p
+
+module _ (S : ℕ → Bool) (L : Limits) where
+  -- reading on from a state, at place p; where the text ends no value is whole
+  abbrev pub run : State → ℕ → Text → Outcome
+  run st p [] = refused syntax p
+  run st p (b ∷ bs) = follow (step S L st p b) p (λ st′. run st′ (suc p) bs)
+
+  -- reading a text
+  abbrev pub read : Text → Outcome
+  read x = run (before (value root)) 0 x
+
+-- "depth 32; nodes 256": "container opened at depth 33", "257th node opened"
+abbrev pub maxDepth : ℕ
+maxDepth = 32
+
+abbrev pub maxNodes : ℕ
+maxNodes = 256
+
+abbrev pub limits : Limits
+limits = record { deep = λ d. eqb d (suc maxDepth); many = λ n. eqb n maxNodes }
+
+-- "the limits aside"
+abbrev pub unlimited : Limits
+unlimited = record { deep = λ d. false; many = λ n. false }

@@ -1,0 +1,65 @@
+-- The node table of document 01's section "Limits and the tables lent": the rows of a tree, and what a lent table holds after a read. Assumes nothing.
+use Prim.Native.Nat.{ℕ, suc, _+_, _-_, _*_}
+use mathlib.Core.Bool.{Bool, cond}
+use mathlib.Core.List.{List, [], _∷_, _++_}
+use lib.ListN.{length, drop, replicate}
+use lib.Dec.{eqb, leb, ltb}
+use Rattle.cel_text.specs.Tree.{Kind, array, object, function, Key, unkeyed, key, Tree, string, container, Trees, ∅, _▸_∶_, nodes, nodesAll, count}
+
+abbrev pub Words : Type 0
+Words = List ℕ
+
+-- "kind: 1 string, 2 array, 3 object, 4 function"
+abbrev pub stringKind : ℕ
+stringKind = 1
+
+abbrev pub kindNumber : Kind → ℕ
+kindNumber array = 2
+kindNumber object = 3
+kindNumber function = 4
+
+-- "start and end of the entry's key; 0, 0 if not an entry"
+abbrev pub keyFrom : Key → ℕ
+keyFrom unkeyed = 0
+keyFrom (key from to) = from
+
+abbrev pub keyTo : Key → ℕ
+keyTo unkeyed = 0
+keyTo (key from to) = to
+
+-- "eight words each": kind; start and end of name or string content; of the key; "parent's number plus 1; root 0"; "direct children"; "number of the first node after its subtree"
+abbrev pub row : (kind from to : ℕ) → Key → (parent children past : ℕ) → Words
+row kind from to k parent children past = kind ∷ from ∷ to ∷ keyFrom k ∷ keyTo k ∷ parent ∷ children ∷ past ∷ []
+
+abbrev mutual
+  -- the rows of the value t with key k, whose number is n and whose parent's word is u
+  pub rowsOf : Tree → Key → (u n : ℕ) → Words
+  rowsOf (string o to q) k u n = row stringKind (suc o) to k u 0 (suc n)
+  rowsOf (container c o from to q ts) k u n = row (kindNumber c) from to k u (count ts) (suc n + nodesAll ts) ++ rowsAll ts (suc n) (suc n)
+
+  -- the rows of children whose first has number n
+  pub rowsAll : Trees → (u n : ℕ) → Words
+  rowsAll ∅ u n = []
+  rowsAll (ts ▸ k ∶ t) u n = rowsAll ts u n ++ rowsOf t k u (n + nodesAll ts)
+
+-- "Nodes stand in the order of their openers"
+abbrev pub rows : Tree → Words
+rows t = rowsOf t unkeyed 0 0
+
+-- "a node table of 32-bit words, at least 2,048 of them"
+abbrev pub nodeWords : ℕ
+nodeWords = 2048
+
+-- what a read leaves of a lent table
+pub data Left : Type 0 where
+  untouched cleared filled : Left
+
+-- "Tables: 1 leaves them untouched. 2 to 6 set the counted words to 0. 7 to 16 keep the node table as for an accepted tree"
+abbrev pub nodesLeft : ℕ → Left
+nodesLeft refusal = cond (eqb refusal 1) untouched (cond (ltb 1 refusal) (cond (leb refusal 6) cleared filled) filled)
+
+-- a lent table of which n words count, filled with ws: "Spare words are 0." "Words past those counts are never touched."
+abbrev pub hold : Left → ℕ → Words → Words → Words
+hold untouched n ws lent = lent
+hold cleared n ws lent = replicate n 0 ++ drop n lent
+hold filled n ws lent = ws ++ (replicate (n - length ws) 0 ++ drop n lent)

@@ -1,0 +1,81 @@
+-- Trees with places, and their sizes as document 01 counts them. A place is the number of bytes before it. Assumes nothing.
+use Prim.Native.Nat.{ℕ, zero, suc, _+_, _-_, max}
+use mathlib.Core.List.{List, [], _∷_, _++_}
+
+-- "object", "function", "array": the values that hold values
+pub data Kind : Type 0 where
+  array object function : Kind
+
+-- "An opener is the byte `{`, `(`, `[` or a string's first `"`."
+abbrev pub opener : Kind → ℕ
+opener array = 91
+opener object = 123
+opener function = 40
+
+abbrev pub closer : Kind → ℕ
+closer array = 93
+closer object = 125
+closer function = 41
+
+-- the key of an entry, from its first place to the place after its last; a value that is no entry has none
+pub data Key : Type 0 where
+  unkeyed : Key
+  key : (from to : ℕ) → Key
+
+infixl 60 _▸_∶_
+mutual
+  -- a string: its opener's place, the place after its content, the place after its closer. Its content begins after the opener.
+  -- a container: its kind, its opener's place, the ends of its name (an array's are 0, 0), the place after its closer, and its children
+  pub data Tree : Type 0 where
+    string : (o to q : ℕ) → Tree
+    container : Kind → (o from to q : ℕ) → Trees → Tree
+
+  -- children in text order, each with its key, the last at hand
+  pub data Trees : Type 0 where
+    ∅ : Trees
+    _▸_∶_ : Trees → Key → Tree → Trees
+
+abbrev mutual
+  -- "nodes (each value is one)"
+  pub nodes : Tree → ℕ
+  nodes (string o to q) = 1
+  nodes (container c o from to q ts) = suc (nodesAll ts)
+
+  pub nodesAll : Trees → ℕ
+  nodesAll ∅ = 0
+  nodesAll (ts ▸ k ∶ t) = nodesAll ts + nodes t
+
+abbrev mutual
+  -- "the root container is at depth 1, and each object, function or array inside another adds 1. Strings add none."
+  pub depth : Tree → ℕ
+  depth (string o to q) = 0
+  depth (container c o from to q ts) = suc (depthAll ts)
+
+  pub depthAll : Trees → ℕ
+  depthAll ∅ = 0
+  depthAll (ts ▸ k ∶ t) = max (depthAll ts) (depth t)
+
+-- "direct children"
+abbrev pub count : Trees → ℕ
+count ∅ = 0
+count (ts ▸ k ∶ t) = suc (count ts)
+
+-- "Blanks before the closing quote are dropped": how many
+abbrev pub dropped : Tree → ℕ
+dropped (string o to q) = q - suc to
+dropped (container c o from to q ts) = 0
+
+-- where a node opens and, of a container, at which depth; 0 for a string
+pub record Opening : Type 0 where
+  pub place : ℕ
+  pub depth : ℕ
+
+abbrev mutual
+  -- "Nodes stand in the order of their openers": the openings of a value at depth d, in that order
+  pub openings : ℕ → Tree → List Opening
+  openings d (string o to q) = record { place = o; depth = 0 } ∷ []
+  openings d (container c o from to q ts) = record { place = o; depth = d } ∷ openingsAll (suc d) ts
+
+  pub openingsAll : ℕ → Trees → List Opening
+  openingsAll d ∅ = []
+  openingsAll d (ts ▸ k ∶ t) = openingsAll d ts ++ openings d t
