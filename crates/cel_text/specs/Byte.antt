@@ -1,6 +1,7 @@
 -- Bytes, as document 01's section "Grammar" names them. A text is a list of bytes and a byte is a number. Assumes nothing.
+use mathlib.Core.Path.{_≡_}
 use Prim.Native.Nat.{ℕ, suc}
-use mathlib.Core.Bool.{Bool, cond, _&&_, _||_}
+use mathlib.Core.Bool.{Bool, false, cond, _&&_, _||_}
 use mathlib.Core.List.{List, [], _∷_, _++_}
 use lib.Dec.{T, leb, ltb, eqb}
 
@@ -58,3 +59,8 @@ comma = 44
 
 abbrev pub colon : ℕ
 colon = 58
+
+-- a set of string bytes "that has no quote and no blank": all that the theorems ask of it
+pub record Plain (S : ℕ → Bool) : Type 0 where
+  pub noQuote : S quote ≡ false
+  pub noBlank : (b : ℕ) → T (blank b) → S b ≡ false

@@ -4,3 +4,4 @@ pub mod Grammar
 pub mod Reading
 pub mod Table
 pub mod Answer
+pub mod Laws

@@ -1,0 +1,5 @@
+-- What is true of the definitions. A reader who believes the checker need not read on.
+pub mod Class
+pub mod Admit
+pub mod Run
+pub mod Complete
