@@ -3,3 +3,5 @@ pub mod Class
 pub mod Admit
 pub mod Run
 pub mod Complete
+pub mod Trace
+pub mod Sound

@@ -1,7 +1,7 @@
 -- Byte classes against each other, and `stringByte` as a plain set. Assumes nothing.
 use mathlib.Core.Path.{_≡_, refl, sym, subst}
 use Prim.Native.Nat.{ℕ}
-use mathlib.Core.Bool.{Bool, true, false, _||_}
+use mathlib.Core.Bool.{Bool, true, false, cond, _||_}
 use lib.Dec.{T, eqb, eqb→eq}
 use Rattle.cel_text.specs.Byte.{blank, alphanumeric, identByte, stringByte, comma, Plain}
 use Rattle.cel_text.specs.Tree.{Kind, array, object, function, closer}
@@ -14,6 +14,11 @@ is-true false h = absurd h
 pub is-false : (b : Bool) → (T b → ⊥) → b ≡ false
 is-false true h = absurd (h tt)
 is-false false h = refl
+
+-- what holds of both choices, each where its test's value is known, holds of the choice
+pub by-test {ℓ} : {A : Type ℓ} (P : A → Type 0) (t : Bool) (u v : A) → (t ≡ true → P u) → (t ≡ false → P v) → P (cond t u v)
+by-test P true u v f g = f refl
+by-test P false u v f g = g refl
 
 -- what holds of either test's proof holds of a proof of one or the other
 either : {P : Type 0} (a b : Bool) → (T a → P) → (T b → P) → T (a || b) → P
