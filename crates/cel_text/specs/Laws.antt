@@ -5,3 +5,5 @@ pub mod Run
 pub mod Complete
 pub mod Trace
 pub mod Sound
+pub mod Move
+pub mod Place

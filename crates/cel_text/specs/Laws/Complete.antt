@@ -95,7 +95,7 @@ module _ (S : ℕ → Bool) (L : Limits) where
       ∙ ap (λ (m : ℕ). resume S L K (string o e (suc m)) (suc m) rest) places)
 
   -- the end of a container, after its children
-  closes : (ts : Trees) (K : Stack) (f : Frame) {b : Text} → Blanks b → (e : ℕ) (rest : Text)
+  pub closes : (ts : Trees) (K : Stack) (f : Frame) {b : Text} → Blanks b → (e : ℕ) (rest : Text)
     → run S L (resting ts K f) e (b ++ closer (f .kind) ∷ rest) ≡ resume S L K (closed f (suc (e + length b))) (suc (e + length b)) rest
   closes ∅ K f {b = b} bs e rest =
       let n : ℕ = e + length b in
