@@ -67,3 +67,7 @@ module _ (S : ℕ → Bool) where
     pub within : j ≤ length x
     pub viable : Viable (take j x)
     pub longest : (i : ℕ) → j < i → i ≤ length x → Viable (take i x) → ⊥
+
+  -- Q holds of the tree of every legal text that begins with x
+  abbrev pub Always : (Tree → Type 0) → Text → Type 0
+  Always Q x = (w : Text) (l : Legal (x ⧺ w)) → Q (l .tree)

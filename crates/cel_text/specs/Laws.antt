@@ -7,3 +7,4 @@ pub mod Trace
 pub mod Sound
 pub mod Move
 pub mod Place
+pub mod Limit

@@ -1,6 +1,9 @@
 -- Trees with places, and their sizes as document 01 counts them. A place is the number of bytes before it. Assumes nothing.
-use Prim.Native.Nat.{ℕ, zero, suc, _+_, _-_, max}
+use mathlib.Core.Path.{_≡_}
+use Prim.Native.Nat.{ℕ, suc, _+_, _-_, max}
+use mathlib.Core.Option.{Option, some}
 use mathlib.Core.List.{List, [], _∷_, _++_}
+use lib.ListN.{getElem?}
 
 -- "object", "function", "array": the values that hold values
 pub data Kind : Type 0 where
@@ -79,3 +82,7 @@ abbrev mutual
   pub openingsAll : ℕ → Trees → List Opening
   openingsAll d ∅ = []
   openingsAll d (ts ▸ k ∶ t) = openingsAll d ts ++ openings d t
+
+-- the node with number n of the text's value t opens at place j, and it is a container at depth d, or a string and d is 0
+abbrev pub OpensAs : Tree → (n j d : ℕ) → Type 0
+OpensAs t n j d = getElem? (openings 1 t) n ≡ some (record { place = j; depth = d })

@@ -33,7 +33,7 @@ module _ (L : Limits) {p : ℕ} {os : List Opening} where
   moves-go st (deep st′ d e l) q = cc
   moves-go st (many st′ d e s l) q = cc
 
-  moves-done : {u v : Step} (t : Tree) → Moves L p os u v → u ≡ done t → v ≡ done t
+  pub moves-done : {u v : Step} (t : Tree) → Moves L p os u v → u ≡ done t → v ≡ done t
   moves-done t (quiet st′ e) q = q
   moves-done t (opens st′ d e s m) q = q
   moves-done t (finishes t′ e) q = q
@@ -41,7 +41,7 @@ module _ (L : Limits) {p : ℕ} {os : List Opening} where
   moves-done t (deep st′ d e l) q = cc
   moves-done t (many st′ d e s l) q = cc
 
-  moves-syntax : {u v : Step} → Moves L p os u v → u ≡ refuse syntax → v ≡ refuse syntax
+  pub moves-syntax : {u v : Step} → Moves L p os u v → u ≡ refuse syntax → v ≡ refuse syntax
   moves-syntax (quiet st′ e) q = q
   moves-syntax (opens st′ d e s m) q = q
   moves-syntax (finishes t e) q = q
@@ -178,7 +178,7 @@ module _ (S : ℕ → Bool) (P : Plain S) where
       omega arith
 
   -- past a refused byte nothing is viable
-  dead : {v : Text} {st : State} → Trace S unlimited (before (value root)) 0 v st → (f : Fault) (x : Text) → Stops S unlimited st (0 + length v) x f
+  pub dead : {v : Text} {st : State} → Trace S unlimited (before (value root)) 0 v st → (f : Fault) (x : Text) → Stops S unlimited st (0 + length v) x f
     → (i : ℕ) → length v < i → i ≤ length (v ++ x) → Viable S (take i (v ++ x)) → ⊥
   dead {v = v} tr f [] s i lo hi u = let n : length (v ++ []) ≡ length v = ap length (append-nil v) in omega arith
   dead {v = v} tr f (b ∷ bs) s i lo hi u =

@@ -1,10 +1,10 @@
 -- The way of a reading: the states it goes through, and how it ends. Assumes nothing.
 use mathlib.Core.Path.{_≡_, refl, sym, ap, subst, _∙_}
-use Prim.Native.Nat.{ℕ, suc, _+_}
+use Prim.Native.Nat.{ℕ, zero, suc, _+_}
 use native.Mathlib.Nat.{add-zero}
 use mathlib.Core.Bool.{Bool}
 use mathlib.Core.List.{List, [], _∷_, _++_}
-use lib.ListN.{length}
+use lib.ListN.{length, take}
 use native.Mathlib.Omega.{arith}
 use Rattle.cel_text.specs.Byte.{Text}
 use Rattle.cel_text.specs.Tree.{Tree}
@@ -20,6 +20,16 @@ module _ (S : ℕ → Bool) (L : Limits) where
   pub traced : {st st′ : State} {p : ℕ} {v : Text} → Trace st p v st′ → (w : Text) → run S L st p (v ++ w) ≡ run S L st′ (p + length v) w
   traced here w = rw add-zero
   traced {st′ = st″} {p = p} (there {v = v} e tr) w = rw e (traced tr w ∙ ap (λ (n : ℕ). run S L st″ n w) (omega arith))
+
+  -- one step more, and only the first k bytes
+  pub trace-snoc : {st st′ st″ : State} {p : ℕ} {v : Text} → Trace st p v st′ → (b : ℕ) → step S L st′ (p + length v) b ≡ go st″ → Trace st p (v ++ b ∷ []) st″
+  trace-snoc {st′ = st′} {st″ = st″} {p = p} here b e = there (subst (λ (n : ℕ). step S L st′ n b ≡ go st″) (add-zero p) e) here
+  trace-snoc {st′ = st′} {st″ = st″} {p = p} (there {v = v} e tr) b q = there e (trace-snoc tr b (subst (λ (n : ℕ). step S L st′ n b ≡ go st″) (omega arith) q))
+
+  pub trace-take : {st st′ : State} {p : ℕ} {v : Text} → Trace st p v st′ → (k : ℕ) → (st″ : State) × Trace st p (take k v) st″
+  trace-take {st = st} tr zero = (st, here)
+  trace-take {st = st} here (suc k) = (st, here)
+  trace-take (there e tr) (suc k) = let r = trace-take tr k in (r .0, there e (r .1))
 
   -- how a reading of x from st at place p ends
   pub record Accepts (st : State) (p : ℕ) (x : Text) (t : Tree) (q : ℕ) : Type 0 where
