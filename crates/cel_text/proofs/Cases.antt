@@ -2,18 +2,11 @@
 use mathlib.Core.Path.{_≡_, refl}
 use mathlib.Core.List.{List, [], _∷_, _++_, map}
 use Prim.Native.Nat.{ℕ, zero, suc}
-use Prim.Native.Char.{Char, code}
-use Prim.Native.String.{String, [] as empty, _∷_ as _then_}
-use lib.ListN.{replicate, length, take}
-use Rattle.cel_text.specs.Byte.{Text, ascii, stringByte, blank, identByte, alphanumeric}
+use lib.ListN.{replicate, take}
+use Rattle.cel_text.specs.Byte.{Text, bytes, ascii, stringByte, blank, identByte, alphanumeric}
 use Rattle.cel_text.specs.Reading.{enter, enterString, past, bare, start, unquote, step}
 use Rattle.cel_text.specs.Table.{Words, nodeWords}
 use Rattle.cel_text.specs.Answer.{Answer, treeAnswer, treeTable}
-
--- the bytes of a quoted text
-abbrev bytes : String → Text
-bytes empty = []
-bytes (c then s) = code c ∷ bytes s
 
 -- a text, the answer of reading it as a tree, and the words of its rows
 record Case : Type 0 where
@@ -40,8 +33,8 @@ cases =
 
 -- each case's answer, and its table of 2,048 words lent full of 7
 cases-hold :
-  (map (λ (c : Case). treeAnswer nodeWords (c .text)) cases ≡ map (λ (c : Case). c .answer) cases)
-  × (map (λ (c : Case). treeTable (c .text) (replicate nodeWords 7)) cases ≡ map (λ (c : Case). take nodeWords (c .words ++ replicate nodeWords 0)) cases)
+    (map (λ (c : Case). treeAnswer nodeWords (c .text)) cases ≡ map (λ (c : Case). c .answer) cases)
+    × (map (λ (c : Case). treeTable (c .text) (replicate nodeWords 7)) cases ≡ map (λ (c : Case). take nodeWords (c .words ++ replicate nodeWords 0)) cases)
 unfolding cases treeAnswer treeTable ascii stringByte blank identByte alphanumeric enter enterString past bare start unquote step
 cases-hold = (refl, refl)
 

@@ -1,6 +1,8 @@
 -- Bytes, as document 01's section "Grammar" names them. A text is a list of bytes and a byte is a number. Assumes nothing.
 use mathlib.Core.Path.{_≡_}
 use Prim.Native.Nat.{ℕ, suc}
+use Prim.Native.Char.{code}
+use Prim.Native.String.{String, [] as empty, _∷_ as _then_}
 use mathlib.Core.Bool.{Bool, false, cond, _&&_, _||_}
 use mathlib.Core.List.{List, [], _∷_, _++_}
 use lib.Dec.{T, leb, ltb, eqb}
@@ -12,6 +14,11 @@ Text = List ℕ
 infixr 66 _⧺_
 abbrev pub _⧺_ : Text → Text → Text
 x ⧺ y = x ++ y
+
+-- the bytes of a quoted text
+abbrev pub bytes : String → Text
+bytes empty = []
+bytes (c then s) = code c ∷ bytes s
 
 -- "Blank: space, tab, LF, CR"
 unfoldable pub blank : ℕ → Bool

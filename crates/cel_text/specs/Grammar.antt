@@ -12,7 +12,7 @@ use Rattle.cel_text.specs.Tree.{Kind, array, object, function, opener, c
 pub data Named (p : ℕ) : Text → ℕ → ℕ → Type 0 where
   nameless : {b : Text} → Blanks b → Named p b (p + length b) (p + length b)
   with-name : {b : Text} {i : ℕ} {is : Text} {c : Text} → Blanks b → Identifier (i ∷ is) → Blanks c
-    → Named p (b ⧺ (i ∷ is) ⧺ c) (p + length b) (p + length b + length (i ∷ is))
+      → Named p (b ⧺ (i ∷ is) ⧺ c) (p + length b) (p + length b + length (i ∷ is))
 
 -- what stands before a container's opener: "an identifier, blanks and `{` (object) or `(` (function). With an empty identifier also `[` (array)"
 pub data Head : Kind → ℕ → Text → ℕ → ℕ → Type 0 where
@@ -37,17 +37,17 @@ module _ (S : ℕ → Bool) where
     pub data Value : ℕ → Text → Tree → Type 0 where
       -- "A string: `"`, a run of string bytes, blanks, `"`."
       a-string : {p : ℕ} {b i c : Text} → Blanks b → Run S i → Blanks c
-        → Value p (b ⧺ (quote ∷ i) ⧺ c ⧺ quote ∷ []) (string (p + length b) (suc (p + length b) + length i) (suc (suc (p + length b) + length i + length c)))
+          → Value p (b ⧺ (quote ∷ i) ⧺ c ⧺ quote ∷ []) (string (p + length b) (suc (p + length b) + length i) (suc (suc (p + length b) + length i + length c)))
       -- "between blanks": the children, blanks and the closer
       a-container : {p : ℕ} {c : Kind} {h v b : Text} {from to : ℕ} {ts : Trees} → Head c p h from to → Children c (suc (p + length h)) v ts → Blanks b
-        → Value p (h ⧺ (opener c ∷ v) ⧺ b ⧺ closer c ∷ []) (container c (p + length h) from to (suc (suc (p + length h) + length v + length b)) ts)
+          → Value p (h ⧺ (opener c ∷ v) ⧺ b ⧺ closer c ∷ []) (container c (p + length h) from to (suc (suc (p + length h) + length v + length b)) ts)
 
     -- `Children S c p v ts`: the bytes v, which stand at place p, are the children of a container of kind c. "None is allowed; a comma before the closer isn't."
     pub data Children : Kind → ℕ → Text → Trees → Type 0 where
       no-child : {c : Kind} {p : ℕ} → Children c p [] ∅
       one-more : {c : Kind} {p : ℕ} {vs s l v : Text} {ts : Trees} {k : Key} {t : Tree}
-        → Children c p vs ts → Separator ts s → Label c (p + length vs + length s) l k → Value (p + length vs + length s + length l) v t
-        → Children c p (vs ⧺ s ⧺ l ⧺ v) (ts ▸ k ∶ t)
+          → Children c p vs ts → Separator ts s → Label c (p + length vs + length s) l k → Value (p + length vs + length s + length l) v t
+          → Children c p (vs ⧺ s ⧺ l ⧺ v) (ts ▸ k ∶ t)
 
   -- "Whatever follows the first whole value is ignored."
   pub record Legal (x : Text) : Type 0 where

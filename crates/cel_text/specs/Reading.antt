@@ -43,13 +43,13 @@ pub data Due : Type 0 where
 
 -- what is being read
 pub data State : Type 0 where
-  before : Due → State                 -- the blanks before it
-  naming : Due → (from : ℕ) → State    -- the identifier
+  before : Due → State  -- the blanks before it
+  naming : Due → (from : ℕ) → State  -- the identifier
   named : Due → (from to : ℕ) → State  -- the blanks after the identifier
-  quoted : Stack → (o : ℕ) → State     -- a string's content
-  dropping : Stack → (o to : ℕ) → State -- the blanks after a string's content
-  begun : Stack → Frame → State        -- the blanks after a container's opener
-  after : Stack → Frame → State        -- the blanks after a container's child
+  quoted : Stack → (o : ℕ) → State  -- a string's content
+  dropping : Stack → (o to : ℕ) → State  -- the blanks after a string's content
+  begun : Stack → Frame → State  -- the blanks after a container's opener
+  after : Stack → Frame → State  -- the blanks after a container's child
 
 pub data Fault : Type 0 where
   syntax tooDeep tooMany : Fault

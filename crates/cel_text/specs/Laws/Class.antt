@@ -1,9 +1,10 @@
 -- Byte classes against each other, and `stringByte` as a plain set. Assumes nothing.
 use mathlib.Core.Path.{_≡_, refl, sym, subst}
-use Prim.Native.Nat.{ℕ}
+use Prim.Native.Nat.{ℕ, zero, suc}
 use mathlib.Core.Bool.{Bool, true, false, cond, _||_}
+use mathlib.Core.List.{[], _∷_}
 use lib.Dec.{T, eqb, eqb→eq}
-use Rattle.cel_text.specs.Byte.{blank, alphanumeric, identByte, stringByte, comma, Plain}
+use Rattle.cel_text.specs.Byte.{Text, bytes, blank, alphanumeric, identByte, stringByte, comma, Plain}
 use Rattle.cel_text.specs.Tree.{Kind, array, object, function, closer}
 
 -- a test's value from a proof of it, and from a refutation
@@ -68,3 +69,22 @@ pub closer-closer : (c : Kind) → eqb (closer c) (closer c) ≡ true
 closer-closer array = refl
 closer-closer object = refl
 closer-closer function = refl
+
+-- ---- the classes, byte by byte
+
+-- the bytes of a class among b, b + 1, .. b + n - 1
+members : (ℕ → Bool) → (n b : ℕ) → Text
+members f zero b = []
+members f (suc n) b = cond (f b) (b ∷ members f n (suc b)) (members f n (suc b))
+
+blank-members : members blank 256 0 ≡ 9 ∷ 10 ∷ 13 ∷ 32 ∷ []
+unfolding members blank
+blank-members = refl
+
+ident-members : members identByte 256 0 ≡ bytes "0123456789ABCDEFGHIJKLMNOPQRSTUVWXYZ_abcdefghijklmnopqrstuvwxyz"
+unfolding members identByte
+ident-members = refl
+
+string-members : members stringByte 256 0 ≡ bytes "-0123456789ABCDEFGHIJKLMNOPQRSTUVWXYZabcdefghijklmnopqrstuvwxyz"
+unfolding members stringByte
+string-members = refl

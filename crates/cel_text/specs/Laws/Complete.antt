@@ -4,7 +4,8 @@ use Prim.Native.Nat.{ℕ, suc, _+_, _≤_}
 use native.Mathlib.Nat.{add-zero, suc-add}
 use mathlib.Core.Bool.{Bool, true, false}
 use mathlib.Core.List.{[], _∷_, _++_, append-assoc}
-use lib.ListN.{length, length-append}
+use lib.ListN.{length, take, length-append}
+use lib.Seq.{take-append-seam}
 use lib.Dec.{T, eqb, eqb→eq}
 use native.Mathlib.Omega.{arith}
 use Rattle.cel_text.specs.Byte.{Text, _⧺_, blank, alphanumeric, identByte, Run, over, byte, Blanks, quote, comma, colon, Plain}
@@ -70,7 +71,7 @@ module _ (S : ℕ → Bool) (L : Limits) where
 
   -- an opener, after what stands before it
   opens : (c : Kind) (K : Stack) {p : ℕ} {h : Text} {from to : ℕ} → Head c p h from to → (r : Text)
-    → run S L (before (value K)) p (h ++ opener c ∷ r) ≡ follow (enter S L c K from to (p + length h)) (p + length h) (λ st. run S L st (suc (p + length h)) r)
+      → run S L (before (value K)) p (h ++ opener c ∷ r) ≡ follow (enter S L c K from to (p + length h)) (p + length h) (λ st. run S L st (suc (p + length h)) r)
   opens array K {p = p} (array-head {b = b} bs) r = before-blanks S L (value K) bs p (opener array ∷ r) ∙ (unfold step start blank identByte bare in refl)
   opens object K (object-head n) r = after-name S L (value K) n (opener object) r (unfold blank in refl) (unfold identByte in refl) refl refl ∙ (unfold past in refl)
   opens function K (function-head n) r = after-name S L (value K) n (opener function) r (unfold blank in refl) (unfold identByte in refl) refl refl ∙ (unfold past in refl)
@@ -81,7 +82,7 @@ module _ (S : ℕ → Bool) (L : Limits) where
 
   -- the end of a string whose content ended at e
   string-end : Plain S → (K : Stack) (o : ℕ) {c : Text} → Blanks c → (e : ℕ) (rest : Text)
-    → run S L (quoted K o) e (c ++ quote ∷ rest) ≡ resume S L K (string o e (suc (e + length c))) (suc (e + length c)) rest
+      → run S L (quoted K o) e (c ++ quote ∷ rest) ≡ resume S L K (string o e (suc (e + length c))) (suc (e + length c)) rest
   string-end P K o over e rest =
       let quoted-ends : step S L (quoted K o) e quote ≡ whole K (string o e (suc e)) = unfold step unquote blank in rw (P .noQuote) in
       rw (add-zero, quoted-ends) (whole-resumes S L K (string o e (suc e)) e rest)
@@ -96,7 +97,7 @@ module _ (S : ℕ → Bool) (L : Limits) where
 
   -- the end of a container, after its children
   pub closes : (ts : Trees) (K : Stack) (f : Frame) {b : Text} → Blanks b → (e : ℕ) (rest : Text)
-    → run S L (resting ts K f) e (b ++ closer (f .kind) ∷ rest) ≡ resume S L K (closed f (suc (e + length b))) (suc (e + length b)) rest
+      → run S L (resting ts K f) e (b ++ closer (f .kind) ∷ rest) ≡ resume S L K (closed f (suc (e + length b))) (suc (e + length b)) rest
   closes ∅ K f {b = b} bs e rest =
       let n : ℕ = e + length b in
       let c : Kind = f .kind in
@@ -121,7 +122,7 @@ module _ (S : ℕ → Bool) (L : Limits) where
       ∙ sym (before-blanks S L w (s .areBlanks) q (y ∷ s .tail)))
 
   separates : (c : Kind) (K : Stack) (o from to : ℕ) {ts : Trees} {s : Text} → Separator ts s → (r : Text) → Starts r → (q : ℕ)
-    → run S L (resting ts K (holding c o from to ts)) q (s ++ r) ≡ run S L (before (child c K (holding c o from to ts))) (q + length s) r
+      → run S L (resting ts K (holding c o from to ts)) q (s ++ r) ≡ run S L (before (child c K (holding c o from to ts))) (q + length s) r
   separates c K o from to first r st q = rw add-zero (begins K (holding c o from to ∅) r st q)
   separates c K o from to {ts = ts} (next {b = b} bs) r st q =
       let f : Frame = holding c o from to ts in
@@ -132,7 +133,7 @@ module _ (S : ℕ → Bool) (L : Limits) where
       rw regroup (after-blanks S L K f bs q (comma ∷ r) ∙ rw goes (ap (λ (m : ℕ). run S L (before (child c K f)) m r) places))
 
   labels : (K : Stack) (o from to : ℕ) (ts : Trees) {c : Kind} {q : ℕ} {l : Text} {k : Key} → Label c q l k → (r : Text)
-    → run S L (before (child c K (holding c o from to ts))) q (l ++ r) ≡ run S L (before (value (inside K (withKey (holding c o from to ts) k)))) (q + length l) r
+      → run S L (before (child c K (holding c o from to ts))) q (l ++ r) ≡ run S L (before (value (inside K (withKey (holding c o from to ts) k)))) (q + length l) r
   labels K o from to ts in-array r = rw add-zero
   labels K o from to ts in-function r = rw add-zero
   labels K o from to ts {q = q} (in-object {l = l} {from = kf} {to = kt} n) r =
@@ -151,10 +152,10 @@ module _ (S : ℕ → Bool) (L : Limits) where
 
   abbrev ReadsChildren : Kind → ℕ → Text → Trees → Type 0
   ReadsChildren c p vs ts = (K : Stack) (o from to : ℕ) (rest : Text) → AdmitsAll L ts (suc (level K)) (suc (opened K))
-    → run S L (begun K (fresh c o from to)) p (vs ++ rest) ≡ run S L (resting ts K (holding c o from to ts)) (p + length vs) rest
+      → run S L (begun K (fresh c o from to)) p (vs ++ rest) ≡ run S L (resting ts K (holding c o from to ts)) (p + length vs) rest
 
   reads-string : Plain S → (p : ℕ) {b i c : Text} → Blanks b → Run S i → Blanks c
-    → ReadsValue p (b ⧺ (quote ∷ i) ⧺ c ⧺ quote ∷ []) (string (p + length b) (suc (p + length b) + length i) (suc (suc (p + length b) + length i + length c)))
+      → ReadsValue p (b ⧺ (quote ∷ i) ⧺ c ⧺ quote ∷ []) (string (p + length b) (suc (p + length b) + length i) (suc (suc (p + length b) + length i + length c)))
   reads-string P p {b = b} {i = i} {c = c} bs is cs K rest a =
       let q : ℕ = p + length b in
       let e : ℕ = suc q + length i in
@@ -167,7 +168,7 @@ module _ (S : ℕ → Bool) (L : Limits) where
       ∙ ap (λ (n : ℕ). resume S L K t n rest) places))
 
   reads-container : (p : ℕ) (c : Kind) (v : Text) (ts : Trees) {h b : Text} {from to : ℕ} → Head c p h from to → ReadsChildren c (suc (p + length h)) v ts → Blanks b
-    → ReadsValue p (h ⧺ (opener c ∷ v) ⧺ b ⧺ closer c ∷ []) (container c (p + length h) from to (suc (suc (p + length h) + length v + length b)) ts)
+      → ReadsValue p (h ⧺ (opener c ∷ v) ⧺ b ⧺ closer c ∷ []) (container c (p + length h) from to (suc (suc (p + length h) + length v + length b)) ts)
   reads-container p c v ts {h = h} {b = b} {from = from} {to = to} hd ch bs K rest a =
       let o : ℕ = p + length h in
       let e : ℕ = suc o + length v in
@@ -179,8 +180,8 @@ module _ (S : ℕ → Bool) (L : Limits) where
       ∙ ap (λ (n : ℕ). resume S L K (closed f (suc (e + length b))) n rest) places))
 
   reads-more : (c : Kind) (p : ℕ) (vs : Text) {s l v : Text} {ts : Trees} {k : Key} {t : Tree} → ReadsChildren c p vs ts → Separator ts s
-    → Label c (p + length vs + length s) l k → Value S (p + length vs + length s + length l) v t → ReadsValue (p + length vs + length s + length l) v t
-    → ReadsChildren c p (vs ⧺ s ⧺ l ⧺ v) (ts ▸ k ∶ t)
+      → Label c (p + length vs + length s) l k → Value S (p + length vs + length s + length l) v t → ReadsValue (p + length vs + length s + length l) v t
+      → ReadsChildren c p (vs ⧺ s ⧺ l ⧺ v) (ts ▸ k ∶ t)
   reads-more c p vs {s = s} {l = l} {v = v} {ts = ts} {k = k} {t = t} ch sep lab val ih K o from to rest a =
       let f : Frame = holding c o from to ts in
       let q : ℕ = p + length vs in
@@ -196,11 +197,12 @@ module _ (S : ℕ → Bool) (L : Limits) where
   -- a whole value is read, whatever follows it
   pub reads-value : Plain S → {p : ℕ} {v : Text} {t : Tree} → Value S p v t → ReadsValue p v t
   reads-value P d =
-      elim d as (λ p v t d. ReadsValue p v t) (λ c p vs ts d. ReadsChildren c p vs ts)
-      [ a-string {p = p} bs is cs ↦ reads-string P p bs is cs
-      | a-container {p = p} {c = c} {v = v} {ts = ts} hd (ch → h) bs ↦ reads-container p c v ts hd h bs
-      | no-child ↦ (λ K o from to rest a. rw add-zero)
-      | one-more {c = c} {p = p} {vs = vs} (ch → h) sep lab (val → ih) ↦ reads-more c p vs h sep lab val ih ]
+      elim d as (λ p v t d. ReadsValue p v t) (λ c p vs ts d. ReadsChildren c p vs ts) [
+        | a-string {p = p} bs is cs ↦ reads-string P p bs is cs
+        | a-container {p = p} {c = c} {v = v} {ts = ts} hd (ch → h) bs ↦ reads-container p c v ts hd h bs
+        | no-child ↦ (λ K o from to rest a. rw add-zero)
+        | one-more {c = c} {p = p} {vs = vs} (ch → h) sep lab (val → ih) ↦ reads-more c p vs h sep lab val ih
+      ]
 
 -- T2 at document 01's limits
 pub complete : (S : ℕ → Bool) → Plain S → {v : Text} {t : Tree} → Value S 0 v t → depth t ≤ maxDepth → nodes t ≤ maxNodes → (rest : Text) → read S limits (v ++ rest) ≡ accepted t (length v)
@@ -210,3 +212,10 @@ complete S P {v = v} {t = t} d hd hn rest =
 -- T2 without limits
 pub complete-unlimited : (S : ℕ → Bool) → Plain S → {v : Text} {t : Tree} → Value S 0 v t → (rest : Text) → read S unlimited (v ++ rest) ≡ accepted t (length v)
 complete-unlimited S P {v = v} {t = t} d rest = reads-value S unlimited P d root rest (unlimited-admits t 0 0) ∙ ap (accepted t) (omega arith)
+
+-- the grammar is unambiguous and prefix-free: a text begins with one whole value at most, and it is one tree
+pub unambiguous : (S : ℕ → Bool) → Plain S → {v v′ : Text} {t t′ : Tree} → Value S 0 v t → Value S 0 v′ t′ → (rest rest′ : Text) → v ++ rest ≡ v′ ++ rest′ → (v ≡ v′) × (t ≡ t′)
+unambiguous S P {v = v} {v′ = v′} {t = t} {t′ = t′} d d′ rest rest′ e =
+    let same : accepted t (length v) ≡ accepted t′ (length v′) = sym (complete-unlimited S P d rest) ∙ ap (read S unlimited) e ∙ complete-unlimited S P d′ rest′ in
+    let long : length v ≡ length v′ = cc in
+    (sym (take-append-seam v rest) ∙ (λ i. take (long i) (e i)) ∙ take-append-seam v′ rest′, cc)

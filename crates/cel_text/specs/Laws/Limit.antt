@@ -118,7 +118,7 @@ module _ (S : ℕ → Bool) where
           record {
             more = at p (q .0) ∷ g .more;
             grows = g .grows ∙ ap (λ (os : List Opening). os ++ g .more) (q .1) ∙ append-assoc (openedBy st) (at p (q .0) ∷ []) (g .more);
-            later = (omega arith, from-earlier (suc p) p (omega arith) (g .more) (g .later))
+            later = (omega arith, from-earlier (suc p) p (omega arith) (g .more) (g .later));
           }
 
   -- the openings of an accepted tree begin with those made on the way
@@ -145,7 +145,7 @@ module _ (S : ℕ → Bool) where
   module _ (P : Plain S) where
     -- a completion of what a trace has passed opens what the trace did, and the rest later
     completed : {v : Text} {st : State} → Trace S unlimited (before (value root)) 0 v st → (x : Text) → x ≡ v → (w : Text) (l : Legal S (x ⧺ w))
-      → (more : List Opening) × (openings 1 (l .tree) ≡ openedBy st ++ more) × From (length v) more
+        → (more : List Opening) × (openings 1 (l .tree) ≡ openedBy st ++ more) × From (length v) more
     completed {v = v} {st = st} tr x e w l =
         let n : ℕ = 0 + length v in
         let q : ℕ = length (l .value) in
@@ -163,7 +163,7 @@ module _ (S : ℕ → Bool) where
     front v b bs = ap (λ (n : ℕ). take n (v ++ b ∷ bs)) (let e : suc (length v) ≡ length v + 1 = omega arith in e) ∙ take-append-add v (b ∷ bs) 1
 
     opened-at : {v : Text} {st : State} → Trace S unlimited (before (value root)) 0 v st → (b : ℕ) (bs : Text) (st′ : State) (d : ℕ)
-      → step S unlimited st (0 + length v) b ≡ go st′ → openedBy st′ ≡ openedBy st ++ at (0 + length v) d ∷ [] → OpenedAt (v ++ b ∷ bs) (length (openedBy st)) (length v) d
+        → step S unlimited st (0 + length v) b ≡ go st′ → openedBy st′ ≡ openedBy st ++ at (0 + length v) d ∷ [] → OpenedAt (v ++ b ∷ bs) (length (openedBy st)) (length v) d
     opened-at {v = v} {st = st} tr b bs st′ d e o =
         let tr′ : Trace S unlimited (before (value root)) 0 (v ++ b ∷ []) st′ = trace-snoc S unlimited tr b e in
         let os : List Opening = openedBy st in
@@ -173,7 +173,7 @@ module _ (S : ℕ → Bool) where
           viable = rw front (trace-viable S P tr′);
           always = λ w l.
               let g = completed tr′ (take (suc (length v)) (v ++ b ∷ bs)) (front v b bs) w l in
-              ap (λ (us : List Opening). getElem? us (length os)) (g .1 ∙ ap (λ (us : List Opening). us ++ g .0) o′) ∙ getElem-seam os (at (length v) d) (g .0)
+              ap (λ (us : List Opening). getElem? us (length os)) (g .1 ∙ ap (λ (us : List Opening). us ++ g .0) o′) ∙ getElem-seam os (at (length v) d) (g .0);
         }
 
     refuses : (L : Limits) (x : Text) (f : Fault) (j : ℕ) → read S L x ≡ refused f j → Refuses S L (before (value root)) 0 x f j
@@ -182,14 +182,14 @@ module _ (S : ℕ → Bool) where
     module _ (L : Limits) where
       -- a limit's refusal falls on an opener
       deep-stop : {v : Text} {st : State} → Trace S L (before (value root)) 0 v st → (y : Text) → Stops S L st (0 + length v) y tooDeep
-        → (n : ℕ) × (d : ℕ) × OpenedAt (v ++ y) n (length v) (suc d) × (L .deep (suc d) ≡ true)
+          → (n : ℕ) × (d : ℕ) × OpenedAt (v ++ y) n (length v) (suc d) × (L .deep (suc d) ≡ true)
       deep-stop tr [] e = clash cc
       deep-stop {v = v} {st = st} tr (b ∷ bs) e =
           let m = step-deep L (step-moves S L st (0 + length v) b) e in
           (length (openedBy st), m .1, opened-at (trace-unlimited S L tr) b bs (m .0) (suc (m .1)) (m .2) (m .3), m .4)
 
       many-stop : {v : Text} {st : State} → Trace S L (before (value root)) 0 v st → (y : Text) → Stops S L st (0 + length v) y tooMany
-        → (n : ℕ) × (d : ℕ) × OpenedAt (v ++ y) n (length v) d × (L .many n ≡ true)
+          → (n : ℕ) × (d : ℕ) × OpenedAt (v ++ y) n (length v) d × (L .many n ≡ true)
       many-stop tr [] e = clash cc
       many-stop {v = v} {st = st} tr (b ∷ bs) e =
           let m = step-many L (step-moves S L st (0 + length v) b) e in
@@ -201,7 +201,7 @@ module _ (S : ℕ → Bool) where
 
       -- the openings at j in a completion of what the limits let pass
       passed : {v : Text} {st : State} → Trace S L (before (value root)) 0 v st → (x : Text) → x ≡ v → (w : Text) (l : Legal S (x ⧺ w)) (n j d : ℕ) → j < length v → OpensAs (l .tree) n j d
-        → Shallow L d × (L .many n ≡ false)
+          → Shallow L d × (L .many n ≡ false)
       passed {v = v} {st = st} tr x e w l n j d h o =
           let g = completed (trace-unlimited S L tr) x e w l in
           let os : List Opening = openedBy st in
@@ -209,7 +209,7 @@ module _ (S : ℕ → Bool) where
           ⊎-elim (λ q. trace-fine L tr fine-start n (at j d) q) (λ q. absurd (from-later (length v) j d h (g .0) (q .0) (g .2) (q .1))) (getElem-append os (g .0) n (at j d) o′)
 
       many-shallow : {v : Text} {st : State} → Trace S L (before (value root)) 0 v st → (y : Text) → Stops S L st (0 + length v) y tooMany
-        → (w : Text) (l : Legal S (take (suc (length v)) (v ++ y) ⧺ w)) (n d : ℕ) → OpensAs (l .tree) n (length v) d → Shallow L d
+          → (w : Text) (l : Legal S (take (suc (length v)) (v ++ y) ⧺ w)) (n d : ℕ) → OpensAs (l .tree) n (length v) d → Shallow L d
       many-shallow tr [] e w l n d o = clash cc
       many-shallow {v = v} {st = st} tr (b ∷ bs) e w l n d o =
           let m = step-many L (step-moves S L st (0 + length v) b) e in
@@ -295,7 +295,7 @@ module _ (S : ℕ → Bool) (P : Plain S) (L : Limits) (B : (n d : ℕ) → Type
         inText = o .inText;
         viable = o .viable;
         opens = λ w l. (n, d, o .always w l, b);
-        lowest = λ g i q. let same : j ≡ i = cc in omega arith
+        lowest = λ g i q. let same : j ≡ i = cc in omega arith;
       }
 
 module _ (S : ℕ → Bool) (P : Plain S) where

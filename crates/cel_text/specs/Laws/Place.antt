@@ -179,7 +179,7 @@ module _ (S : ℕ → Bool) (P : Plain S) where
 
   -- past a refused byte nothing is viable
   pub dead : {v : Text} {st : State} → Trace S unlimited (before (value root)) 0 v st → (f : Fault) (x : Text) → Stops S unlimited st (0 + length v) x f
-    → (i : ℕ) → length v < i → i ≤ length (v ++ x) → Viable S (take i (v ++ x)) → ⊥
+      → (i : ℕ) → length v < i → i ≤ length (v ++ x) → Viable S (take i (v ++ x)) → ⊥
   dead {v = v} tr f [] s i lo hi u = let n : length (v ++ []) ≡ length v = ap length (append-nil v) in omega arith
   dead {v = v} tr f (b ∷ bs) s i lo hi u =
       let k : ℕ = i - suc (length v) in
@@ -194,7 +194,7 @@ module _ (S : ℕ → Bool) (P : Plain S) where
       record {
         within = simp length-append (omega arith);
         viable = rw take-append-seam (trace-viable tr);
-        longest = dead tr f x s
+        longest = dead tr f x s;
       }
 
   pub refused-longest : (x : Text) (f : Fault) (j : ℕ) → read S unlimited x ≡ refused f j → Longest S x j

@@ -62,7 +62,7 @@ module _ (S : ℕ → Bool) (L : Limits) where
 
   -- from an identifier's end on: blanks, then the byte y that is neither
   name-end : (w : Due) (from : ℕ) {c : Text} → Blanks c → (e y : ℕ) (r : Text) → blank y ≡ false → identByte y ≡ false
-    → run S L (naming w from) e (c ++ y ∷ r) ≡ pastName w from e (e + length c) y r
+      → run S L (naming w from) e (c ++ y ∷ r) ≡ pastName w from e (e + length c) y r
   name-end w from over e y r nb ni = unfold step in rw (add-zero, ni, nb)
   name-end w from (byte {b = b} {bs = bs} t ts) e y r nb ni =
       let first : step S L (naming w from) e b ≡ go (named w from e) = unfold step in rw (ident-blank b t, is-true (blank b) t) in
@@ -72,8 +72,8 @@ module _ (S : ℕ → Bool) (L : Limits) where
 
   -- after blanks, an identifier and blanks, at a byte that is none of these and opens no array or string
   pub after-name : (w : Due) {p : ℕ} {l : Text} {from to : ℕ} → Named p l from to → (y : ℕ) (r : Text)
-    → blank y ≡ false → identByte y ≡ false → eqb y (opener array) ≡ false → eqb y quote ≡ false
-    → run S L (before w) p (l ++ y ∷ r) ≡ pastName w from to (p + length l) y r
+      → blank y ≡ false → identByte y ≡ false → eqb y (opener array) ≡ false → eqb y quote ≡ false
+      → run S L (before w) p (l ++ y ∷ r) ≡ pastName w from to (p + length l) y r
   after-name w {p = p} (nameless {b = b} bs) y r nb ni na nq = before-blanks w bs p (y ∷ r) ∙ bare-past w (p + length b)
     where
       bare-past : (w : Due) (q : ℕ) → run S L (before w) q (y ∷ r) ≡ pastName w q q q y r

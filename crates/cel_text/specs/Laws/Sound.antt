@@ -157,23 +157,30 @@ module _ (S : ℕ → Bool) where
                         one-more (h .areKids) (a .isSeparator)
                         (subst (λ (m : ℕ). Label (f .kind) m (a .label) (f .next)) (ap (λ (m : ℕ). m + length (a .separator)) heldLong) (a .isLabel))
                         (subst (λ (m : ℕ). Value S m v t) yLong val);
-                    split = rw (e, a .split, h .split) (simp append-assoc)
+                    split = rw (e, a .split, h .split) (simp append-assoc);
                   };
               separable = λ b bs. next bs;
-              noKey = refl
+              noKey = refl;
             };
         areBlanks = over;
-        split = sym (append-nil x)
+        split = sym (append-nil x);
       }
 
   rekeyed : {Outer : Text → Type 0} {y : Text} {f : Frame} (k : Key) → Holds Outer y f → Holds Outer y (withKey f k)
   rekeyed k h =
       record {
-        outer = h .outer; head = h .head; kids = h .kids; ready = h .ready; isHead = h .isHead; opening = h .opening; areKids = h .areKids; split = h .split
+        outer = h .outer;
+        head = h .head;
+        kids = h .kids;
+        ready = h .ready;
+        isHead = h .isHead;
+        opening = h .opening;
+        areKids = h .areKids;
+        split = h .split;
       }
 
   close-good : (K : Stack) (f : Frame) (y : Text) {b : Text} → Holds (Ready K) y f → Blanks b → (p : ℕ) (x : Text) → p ≡ length y + length b → x ≡ y ⧺ b ⧺ closer (f .kind) ∷ []
-    → Good (whole K (closed f (suc p))) x
+      → Good (whole K (closed f (suc p))) x
   close-good K f y {b = b} h bs p x ep ex =
       let o : ℕ = length (h .outer) + length (h .head) in
       let q : suc (suc o + length (h .kids) + length b) ≡ suc p = sym (ap suc (ep ∙ ap (λ (n : ℕ). n + length b) (ap length (h .split) ∙ simp length-append (omega arith)))) in
@@ -185,31 +192,43 @@ module _ (S : ℕ → Bool) where
   child-due : (K : Stack) (f : Frame) (y s x : Text) → Holds (Ready K) y f → Separator (f .children) s → f .next ≡ unkeyed → x ≡ y ⧺ s → (c : Kind) → f .kind ≡ c → DueAt (child c K f) x
   child-due K f y s x h sep nk e array ec =
       record {
-        held = y; separator = s; label = []; holds = h; isSeparator = sep;
+        held = y;
+        separator = s;
+        label = [];
+        holds = h;
+        isSeparator = sep;
         isLabel = subst₂ (λ (c : Kind) (k : Key). Label c (length y + length s) [] k) (sym ec) (sym nk) in-array;
-        split = rw e (simp append-nil)
+        split = rw e (simp append-nil);
       }
   child-due K f y s x h sep nk e function ec =
       record {
-        held = y; separator = s; label = []; holds = h; isSeparator = sep;
+        held = y;
+        separator = s;
+        label = [];
+        holds = h;
+        isSeparator = sep;
         isLabel = subst₂ (λ (c : Kind) (k : Key). Label c (length y + length s) [] k) (sym ec) (sym nk) in-function;
-        split = rw e (simp append-nil)
+        split = rw e (simp append-nil);
       }
   child-due K f y s x h sep nk e object ec = record { isObject = ec; held = y; separator = s; holds = h; isSeparator = sep; split = e }
 
   module _ (L : Limits) where
     enter-good : (c : Kind) (K : Stack) (y : Text) {h : Text} {from to : ℕ} → Ready K y → Head c (length y) h from to → (p : ℕ) (x : Text) → p ≡ length y + length h → x ≡ y ⧺ h ⧺ opener c ∷ []
-      → Good (enter S L c K from to p) x
+        → Good (enter S L c K from to p) x
     unfolding enter
     enter-good c K y {h = h} r hd p x ep ex =
         by-test (λ u. Good u x) (L .deep _) _ _ (λ e. tt) (λ e. by-test (λ u. Good u x) (L .many _) _ _ (λ e′. tt) (λ e′.
         record {
-          front = x; blanks = []; areBlanks = over; split = sym (append-nil x);
+          front = x;
+          blanks = [];
+          areBlanks = over;
+          split = sym (append-nil x);
           holds =
               record {
                 holds = record { outer = y; head = h; kids = []; ready = r; isHead = hd; opening = ep; areKids = no-child; split = ex };
-                separable = first; noKey = refl
-              }
+                separable = first;
+                noKey = refl;
+              };
         }))
 
     enterString-good : (K : Stack) (y : Text) {b : Text} → Ready K y → Blanks b → (p : ℕ) (x : Text) → p ≡ length y + length b → x ≡ y ⧺ b ⧺ quote ∷ [] → Good (enterString S L K p) x
@@ -219,7 +238,7 @@ module _ (S : ℕ → Bool) where
         (λ e. record { front = y; blanks = b; content = []; ready = r; areBlanks = bs; isContent = over; opening = ep; split = ex })
 
     past-good : (w : Due) (y : Text) {l : Text} {from to : ℕ} → DueAt w y → Named (length y) l from to → (p b : ℕ) (x : Text) → p ≡ length y + length l → x ≡ y ⧺ l ⧺ b ∷ []
-      → Good (past S L w from to p b) x
+        → Good (past S L w from to p b) x
     unfolding past
     past-good (value K) y {l = l} r n p b x ep ex =
         by-test (λ u. Good u x) (eqb b (opener object)) _ _ (λ e. enter-good object K y r (object-head n) p x ep (at (opener object) e))
@@ -230,13 +249,20 @@ module _ (S : ℕ → Bool) where
     past-good (entry K f) y {l = l} {from = from} {to = to} d n p b x ep ex =
         by-test (λ u. Good u x) (eqb b colon) _ _ (λ e.
         record {
-          front = x; blanks = []; areBlanks = over; split = sym (append-nil x);
+          front = x;
+          blanks = [];
+          areBlanks = over;
+          split = sym (append-nil x);
           holds =
               record {
-                held = d .held; separator = d .separator; label = l ⧺ colon ∷ []; holds = rekeyed (key from to) (d .holds); isSeparator = d .isSeparator;
+                held = d .held;
+                separator = d .separator;
+                label = l ⧺ colon ∷ [];
+                holds = rekeyed (key from to) (d .holds);
+                isSeparator = d .isSeparator;
                 isLabel = subst₂ (λ (c : Kind) (m : ℕ). Label c m (l ⧺ colon ∷ []) (key from to)) (sym (d .isObject)) (ap length (d .split) ∙ length-append (d .held) (d .separator)) (in-object n);
-                split = rw (ex, d .split, eqb-true b colon e) (simp append-assoc)
-              }
+                split = rw (ex, d .split, eqb-true b colon e) (simp append-assoc);
+              };
         }) (λ e. tt)
 
     bare-good : (w : Due) (y : Text) {b : Text} → DueAt w y → Blanks b → (p c : ℕ) (x : Text) → p ≡ length y + length b → x ≡ y ⧺ b ⧺ c ∷ [] → Good (bare S L w p c) x
@@ -266,13 +292,17 @@ module _ (S : ℕ → Bool) where
         let n : ℕ = suc m + length (q .content) in
         let ends : n ≡ to = sym (d .ends ∙ ap length (q .split) ∙ simp length-append (omega arith)) in
         let closes : suc (n + length (d .blanks)) ≡ suc p =
-            ap suc (ap (λ (k : ℕ). k + length (d .blanks)) (ends ∙ d .ends) ∙ sym (length-append (d .stem) (d .blanks)) ∙ sym (ap length (d .split)) ∙ sym ep)
+        ap suc (ap (λ (k : ℕ). k + length (d .blanks)) (ends ∙ d .ends) ∙ sym (length-append (d .stem) (d .blanks)) ∙ sym (ap length (d .split)) ∙ sym ep)
         in
         by-test (λ u. Good u x) (blank b) _ _
         (λ e.
         record {
-          stem = d .stem; blanks = d .blanks ⧺ b ∷ []; holds = q; areBlanks = snoc (d .areBlanks) b (passed e); ends = d .ends;
-          split = rw (ex, d .split) (simp append-assoc)
+          stem = d .stem;
+          blanks = d .blanks ⧺ b ∷ [];
+          holds = q;
+          areBlanks = snoc (d .areBlanks) b (passed e);
+          ends = d .ends;
+          split = rw (ex, d .split) (simp append-assoc);
         })
         (λ e. by-test (λ u. Good u x) (eqb b quote) _ _
         (λ e′.
@@ -297,8 +327,15 @@ module _ (S : ℕ → Bool) where
         by-test (λ u. Good u x) (identByte b) _ _
         (λ e.
         record {
-          front = d .front; blanks = d .blanks; i = d .i; is = d .is ⧺ b ∷ []; due = d .due; areBlanks = d .areBlanks; isName = snoc (d .isName) b (passed e); begins = d .begins;
-          split = rw (ex, d .split) (simp append-assoc)
+          front = d .front;
+          blanks = d .blanks;
+          i = d .i;
+          is = d .is ⧺ b ∷ [];
+          due = d .due;
+          areBlanks = d .areBlanks;
+          isName = snoc (d .isName) b (passed e);
+          begins = d .begins;
+          split = rw (ex, d .split) (simp append-assoc);
         })
         (λ e. by-test (λ u. Good u x) (blank b) _ _
         (λ e′. record { stem = z; blanks = b ∷ []; holds = d; areBlanks = byte (passed e′) over; ends = refl; split = ex })
@@ -308,8 +345,12 @@ module _ (S : ℕ → Bool) where
         by-test (λ u. Good u x) (blank b) _ _
         (λ e.
         record {
-          stem = d .stem; blanks = d .blanks ⧺ b ∷ []; holds = m; areBlanks = snoc (d .areBlanks) b (passed e); ends = d .ends;
-          split = rw (ex, d .split) (simp append-assoc)
+          stem = d .stem;
+          blanks = d .blanks ⧺ b ∷ [];
+          holds = m;
+          areBlanks = snoc (d .areBlanks) b (passed e);
+          ends = d .ends;
+          split = rw (ex, d .split) (simp append-assoc);
         })
         (λ e. past-good w (m .front) (m .due) (name-of w from m (d .areBlanks) to (d .ends)) (length z) b x
         (ap length (d .split ∙ ap (λ (u : Text). u ++ d .blanks) (m .split)) ∙ simp length-append (omega arith)) (rw (ex, d .split, m .split) (simp append-assoc)))
@@ -317,8 +358,14 @@ module _ (S : ℕ → Bool) where
         by-test (λ u. Good u x) (S b) _ _
         (λ e.
         record {
-          front = d .front; blanks = d .blanks; content = d .content ⧺ b ∷ []; ready = d .ready; areBlanks = d .areBlanks; isContent = snoc (d .isContent) b (passed e); opening = d .opening;
-          split = rw (ex, d .split) (simp append-assoc)
+          front = d .front;
+          blanks = d .blanks;
+          content = d .content ⧺ b ∷ [];
+          ready = d .ready;
+          areBlanks = d .areBlanks;
+          isContent = snoc (d .isContent) b (passed e);
+          opening = d .opening;
+          split = rw (ex, d .split) (simp append-assoc);
         })
         (λ e. unquote-good K o (length z) (length z) b (record { stem = z; blanks = []; holds = d; areBlanks = over; ends = refl; split = sym (append-nil z) }) x refl ex)
     step-good (dropping K o to) z b d x ex = unquote-good K o to (length z) b d x refl ex
@@ -342,8 +389,11 @@ module _ (S : ℕ → Bool) where
         (λ e. by-test (λ u. Good u x) (eqb b comma) _ _
         (λ e′.
         record {
-          front = x; blanks = []; areBlanks = over; split = sym (append-nil x);
-          holds = child-due K f (d .front) (d .blanks ⧺ comma ∷ []) x (r .holds) (r .separable (d .blanks) (d .areBlanks)) (r .noKey) (at comma e′) (f .kind) refl
+          front = x;
+          blanks = [];
+          areBlanks = over;
+          split = sym (append-nil x);
+          holds = child-due K f (d .front) (d .blanks ⧺ comma ∷ []) x (r .holds) (r .separable (d .blanks) (d .areBlanks)) (r .noKey) (at comma e′) (f .kind) refl;
         })
         (λ e′. by-test (λ u. Good u x) (eqb b (closer (f .kind))) _ _ (λ e″. close-good K f (d .front) (r .holds) (d .areBlanks) (length z) x ep (at (closer (f .kind)) e″)) (λ e″. tt)))
 
@@ -462,7 +512,7 @@ accepts-reads S L x t q a =
       rest = a .rest;
       split = a .split ∙ simp append-assoc;
       place = a .place ∙ simp length-append (omega arith);
-      reads = subst (λ (u : Step). Good S u (v ++ a .last ∷ [])) (ap (λ (n : ℕ). step S L (a .state) n (a .last)) at ∙ a .ends) (step-good S L (a .state) v (a .last) g (v ++ a .last ∷ []) refl)
+      reads = subst (λ (u : Step). Good S u (v ++ a .last ∷ [])) (ap (λ (n : ℕ). step S L (a .state) n (a .last)) at ∙ a .ends) (step-good S L (a .state) v (a .last) g (v ++ a .last ∷ []) refl);
     }
 
 pub sound : (S : ℕ → Bool) (L : Limits) (x : Text) (t : Tree) (q : ℕ) → read S L x ≡ accepted t q → Reads S x t q

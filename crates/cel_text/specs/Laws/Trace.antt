@@ -74,7 +74,7 @@ module _ (S : ℕ → Bool) (L : Limits) where
         split = ap (λ (x : Text). b ∷ x) (a .split);
         trace = there e (a .trace);
         ends = subst (λ (n : ℕ). step S L (a .state) n (a .last) ≡ done t) (shift p (a .before)) (a .ends);
-        place = a .place ∙ ap suc (shift p (a .before))
+        place = a .place ∙ ap suc (shift p (a .before));
       }
   ends-step st st′ p b bs e (refused f q) r =
       record {
@@ -84,7 +84,7 @@ module _ (S : ℕ → Bool) (L : Limits) where
         split = ap (λ (x : Text). b ∷ x) (r .split);
         trace = there e (r .trace);
         stops = subst (λ (n : ℕ). Stops (r .state) n (r .rest) f) (shift p (r .before)) (r .stops);
-        place = r .place ∙ shift p (r .before)
+        place = r .place ∙ shift p (r .before);
       }
 
   pub ends : (st : State) (p : ℕ) (x : Text) → Ends st p x (run S L st p x)
@@ -102,7 +102,7 @@ module _ (S : ℕ → Bool) (L : Limits) where
             split = refl;
             trace = here;
             ends = subst (λ (n : ℕ). step S L st n b ≡ done t) (sym (add-zero p)) e;
-            place = ap suc (sym (add-zero p))
+            place = ap suc (sym (add-zero p));
           }
       by ih (refuse f) e =
           record {
@@ -112,5 +112,5 @@ module _ (S : ℕ → Bool) (L : Limits) where
             split = refl;
             trace = here;
             stops = subst (λ (n : ℕ). step S L st n b ≡ refuse f) (sym (add-zero p)) e;
-            place = sym (add-zero p)
+            place = sym (add-zero p);
           }
