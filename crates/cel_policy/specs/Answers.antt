@@ -1,0 +1,176 @@
+-- The answers of "read a policy", "print a policy" and "canonicalise" for every input, in document 01's numbers, and what each table and buffer
+-- holds afterwards. S is the set of string bytes; the entries' own is stringByte. Assumes nothing.
+use Prim.Native.Nat.{ℕ, zero, suc, _+_, _*_}
+use mathlib.Core.Bool.{Bool, true, false, cond, _&&_}
+use mathlib.Core.List.{List, [], _∷_, _++_}
+use mathlib.Core.Option.{Option, none, some}
+use lib.ListN.{length, drop, replicate}
+use lib.Dec.{leb, ltb}
+use Rattle.cel_text.specs.Byte.{Text, stringByte}
+use Rattle.cel_text.specs.Tree.{Tree, nodes, depth}
+use Rattle.cel_text.specs.Table.{Words, rows, nodeWords, nodesLeft, hold}
+use Rattle.cel_text.specs.Answer.{Answer, Found, tree, fault, findTree, maxText}
+use Rattle.cel_policy.specs.Policy.{Span, Policy, Counted, counted, stringCount, noPolicy, content, strings}
+use Rattle.cel_policy.specs.Mapping.{Refusal, Mapped, good, bad, nodeOf, mapping}
+use Rattle.cel_policy.specs.Spans.{spanWords, spanTable, spansLeft, spanAt, spansAt}
+use Rattle.cel_policy.specs.Printed.{printed, shaped}
+
+-- ---- read a policy
+
+-- what reading a policy gives: a tree and its policy; a tree and a refusal of 7 to 16; a refusal of 1 to 6 and its place
+pub data FoundPolicy : Type 0 where
+  policy : Tree → Policy Span → FoundPolicy
+  unmapped : Tree → Refusal → FoundPolicy
+  unread : (refusal place : ℕ) → FoundPolicy
+
+-- "read a policy (tree, then mapping)"
+abbrev pub judged : Tree → Mapped (Policy Span) → FoundPolicy
+judged t (good p) = policy t p
+judged t (bad r) = unmapped t r
+
+abbrev pub mapTree : Text → Found → FoundPolicy
+mapTree x (tree t q) = judged t (mapping (nodeOf x t 0))
+mapTree x (fault r p) = unread r p
+
+-- "1 reading: a lent table is too short"; w and v are the lengths of the node table and the span table
+abbrev pub findPolicy : (ℕ → Bool) → (w v : ℕ) → Text → FoundPolicy
+findPolicy S w v x = cond (ltb v spanWords) (unread 1 0) (mapTree x (findTree S w x))
+
+-- the answer's six numbers and the policy's five. "A refused read returns form and kind none and counts 0."
+pub record PolicyAnswer : Type 0 where
+  pub answer : Answer
+  pub policy : Counted
+
+abbrev pub policyAnswered : FoundPolicy → PolicyAnswer
+policyAnswered (policy t p) =
+    record { answer = record { refusal = 0; name = 0; kind = 0; place = 0; nodes = nodes t; depth = depth t }; policy = counted p }
+policyAnswered (unmapped t r) =
+    record {
+      answer = record { refusal = r .refusal; name = r .name; kind = r .kind; place = r .node; nodes = nodes t; depth = depth t };
+      policy = noPolicy;
+    }
+policyAnswered (unread r p) =
+    record { answer = record { refusal = r; name = 0; kind = 0; place = p; nodes = 0; depth = 0 }; policy = noPolicy }
+
+-- what the lent tables hold afterwards
+abbrev pub nodesHeld : FoundPolicy → Words → Words
+nodesHeld (policy t p) lent = hold (nodesLeft 0) nodeWords (rows t) lent
+nodesHeld (unmapped t r) lent = hold (nodesLeft (r .refusal)) nodeWords (rows t) lent
+nodesHeld (unread r p) lent = hold (nodesLeft r) nodeWords [] lent
+
+abbrev pub spansHeld : FoundPolicy → Words → Words
+spansHeld (policy t p) lent = hold (spansLeft 0) spanWords (spanTable p) lent
+spansHeld (unmapped t r) lent = hold (spansLeft (r .refusal)) spanWords [] lent
+spansHeld (unread r p) lent = hold (spansLeft r) spanWords [] lent
+
+-- reading a policy: the answer, the node table and the span table afterwards
+unfoldable pub policyAnswer : (w v : ℕ) → Text → PolicyAnswer
+policyAnswer w v x = policyAnswered (findPolicy stringByte w v x)
+
+unfoldable pub policyNodes : Text → (nodes spans : Words) → Words
+policyNodes x nodes spans = nodesHeld (findPolicy stringByte (length nodes) (length spans) x) nodes
+
+unfoldable pub policySpans : Text → (nodes spans : Words) → Words
+policySpans x nodes spans = spansHeld (findPolicy stringByte (length nodes) (length spans) x) spans
+
+-- ---- print a policy
+
+-- a policy given as numbers and a span table, by anyone
+abbrev pub placed : Counted → Words → Policy Span
+placed k ws =
+    record {
+      form = k .form;
+      kind = k .kind;
+      requestHeaders = spansAt ws (k .requestHeaders) 0;
+      queryParameters = spansAt ws (k .queryParameters) (k .requestHeaders);
+      responseHeaders = spansAt ws (k .responseHeaders) (k .requestHeaders + k .queryParameters);
+    }
+
+-- "every span in its table, no start after its end, spans inside the text": of string i
+unfoldable pub spanFits : Words → Text → ℕ → Bool
+spanFits ws x i = ltb (suc (2 * i)) (length ws) && leb (spanAt ws i .from) (spanAt ws i .to) && leb (spanAt ws i .to) (length x)
+
+-- "string bytes only"
+abbrev pub allOf : {A : Type 0} → (A → Bool) → List A → Bool
+allOf test [] = true
+allOf test (a ∷ more) = cond (test a) (allOf test more) false
+
+unfoldable pub bytesFit : (ℕ → Bool) → Words → Text → ℕ → Bool
+bytesFit S ws x i = allOf S (content x (spanAt ws i))
+
+-- "the first faulty string, counted from 0": of n strings from string i on
+abbrev pub firstFault : (ℕ → Bool) → (n i : ℕ) → Option ℕ
+firstFault fits zero i = none
+firstFault fits (suc n) i = cond (fits i) (firstFault fits n (suc i)) (some i)
+
+-- what printing gives: the text to be written, or a refusal of 20 to 24 and its place
+pub data Printing : Type 0 where
+  written : Text → Printing
+  unprinted : (refusal place : ℕ) → Printing
+
+abbrev pub unlessFaulty : (refusal : ℕ) → Option ℕ → Printing → Printing
+unlessFaulty refusal none next = next
+unlessFaulty refusal (some i) next = unprinted refusal i
+
+-- "23 printed text over 8,192 bytes", "24 output shorter than the text to be written"; r is the output's length
+unfoldable pub sized : Text → (r : ℕ) → Printing
+sized t r = cond (ltb maxText (length t)) (unprinted 23 0) (cond (ltb r (length t)) (unprinted 24 0) (written t))
+
+-- "Checks run 20 to 24, each over all strings before the next."
+unfoldable pub findPrint : (ℕ → Bool) → Counted → Words → Text → (r : ℕ) → Printing
+findPrint S k ws x r =
+    cond (shaped k)
+    (unlessFaulty 21 (firstFault (spanFits ws x) (stringCount k) 0)
+    (unlessFaulty 22 (firstFault (bytesFit S ws x) (stringCount k) 0)
+    (sized (printed (strings x (placed k ws))) r)))
+    (unprinted 20 0)
+
+-- "An answer is four numbers"; "Printing gives the printed length instead, 0 when refused."
+pub record PrintAnswer : Type 0 where
+  pub refusal : ℕ
+  pub name : ℕ
+  pub kind : ℕ
+  pub place : ℕ
+  pub length : ℕ
+
+abbrev pub printAnswered : Printing → PrintAnswer
+printAnswered (written t) = record { refusal = 0; name = 0; kind = 0; place = 0; length = length t }
+printAnswered (unprinted r p) = record { refusal = r; name = 0; kind = 0; place = p; length = 0 }
+
+-- "After any refusal [...] the output stays as lent; otherwise bytes after the printed text do."
+abbrev pub output : Printing → Text → Text
+output (written t) lent = t ++ drop (length t) lent
+output (unprinted r p) lent = lent
+
+-- printing a policy: the answer, and the output afterwards
+unfoldable pub printAnswer : Counted → Words → Text → (r : ℕ) → PrintAnswer
+printAnswer k ws x r = printAnswered (findPrint stringByte k ws x r)
+
+unfoldable pub printOutput : Counted → Words → Text → Text → Text
+printOutput k ws x out = output (findPrint stringByte k ws x (length out)) out
+
+-- ---- canonicalise
+
+-- "canonicalise (read, then print)": what was read is printed from the span table that the read left
+abbrev pub reprinted : (ℕ → Bool) → FoundPolicy → Text → (r : ℕ) → Printing
+reprinted S (policy t p) x r = findPrint S (counted p) (spansHeld (policy t p) (replicate spanWords 0)) x r
+reprinted S (unmapped t f) x r = unprinted (f .refusal) 0
+reprinted S (unread f p) x r = unprinted f 0
+
+unfoldable pub findCanonical : (ℕ → Bool) → Text → (r : ℕ) → Printing
+findCanonical S x r = reprinted S (findPolicy S nodeWords spanWords x) x r
+
+-- "gets one number: the printed length, or 65,536 plus the refusal"
+abbrev pub refusalBase : ℕ
+refusalBase = 65536
+
+abbrev pub oneNumber : Printing → ℕ
+oneNumber (written t) = length t
+oneNumber (unprinted r p) = refusalBase + r
+
+-- canonicalising: the number, and the output afterwards
+unfoldable pub canonicalAnswer : Text → (r : ℕ) → ℕ
+canonicalAnswer x r = oneNumber (findCanonical stringByte x r)
+
+unfoldable pub canonicalOutput : Text → Text → Text
+canonicalOutput x out = output (findCanonical stringByte x (length out)) out

@@ -1,0 +1,180 @@
+-- Which refusals each entry gives. Assumes nothing.
+use mathlib.Core.Path.{_≡_, refl, sym, subst}
+use mathlib.Core.Logic.{_⊎_, inl, inr, ⊎-elim}
+use Prim.Native.Nat.{ℕ, _+_, _≤_, _<_}
+use native.Mathlib.Omega.{arith}
+use mathlib.Core.Bool.{Bool, true, true≢false}
+use mathlib.Core.Option.{Option, none, some}
+use lib.ListN.{length}
+use lib.Dec.{lit≤, ltb}
+use borrow.Author.Tests.{ltb-false}
+use Rattle.cel_text.specs.Byte.{Text, ascii, lead, stringByte}
+use Rattle.cel_text.specs.Tree.{Tree}
+use Rattle.cel_text.specs.Table.{Words, nodeWords}
+use Rattle.cel_text.specs.Reading.{Fault, syntax, tooDeep, tooMany, Outcome, accepted, refused, read, limits}
+use Rattle.cel_text.specs.Answer.{maxText, faultNumber, Found, fault, found, findTree, answered, treeAnswer}
+use Rattle.cel_text.specs.Laws.Class.{by-test}
+use Rattle.cel_policy.specs.Policy.{Span, Policy, Counted, stringCount, strings}
+use Rattle.cel_policy.specs.Mapping.{Node, Refusal, Mapped, good, bad, nodeOf, mapping}
+use Rattle.cel_policy.specs.Spans.{spanWords}
+use Rattle.cel_policy.specs.Printed.{printed, shaped}
+use Rattle.cel_policy.specs.Answers.{canonicalAnswer, oneNumber, refusalBase, placed, spanFits, bytesFit, firstFault, findCanonical, reprinted, FoundPolicy, policy, unmapped, unread, judged, mapTree, findPolicy, policyAnswered, policyAnswer, Printing, written, unprinted, unlessFaulty, sized, findPrint, printAnswered, printAnswer}
+use Rattle.cel_policy.specs.Laws.Counts.{between, OfMapping, meets-mapping}
+use Rattle.cel_policy.specs.Laws.Readable.{Readable, readable}
+use Rattle.cel_policy.specs.Laws.SpanTable.{print-read}
+
+-- ---- what holds in each case holds of what is found
+
+module _ (S : ℕ → Bool) (w v : ℕ) (x : Text) where
+  findTree-cases :
+      (P : Found → Type 0) → (ltb w nodeWords ≡ true → P (fault 1 0)) → P (fault 2 maxText) → ((p : ℕ) → P (fault 3 p))
+      → ((o : Outcome) → read S limits x ≡ o → P (found o)) → P (findTree S w x)
+  findTree-cases P one two three reading =
+      by-test P (ltb w nodeWords) _ _ one (λ a.
+      by-test P (ltb maxText (length x)) _ _ (λ b. two) (λ b.
+      by-test P (ltb (lead ascii x) (length x)) _ _ (λ c. three _) (λ c. reading (read S limits x) refl)))
+
+  module _
+      (P : FoundPolicy → Type 0)
+      (one : (ltb v spanWords ≡ true) ⊎ (ltb w nodeWords ≡ true) → P (unread 1 0))
+      (two : P (unread 2 maxText))
+      (three : (p : ℕ) → P (unread 3 p))
+      (faulty : (f : Fault) (p : ℕ) → P (unread (faultNumber f) p))
+      (badly : (t : Tree) (r : Refusal) → mapping (nodeOf x t 0) ≡ bad r → P (unmapped t r))
+      (well : (t : Tree) (q : ℕ) (p : Policy Span) → read S limits x ≡ accepted t q → mapping (nodeOf x t 0) ≡ good p → P (policy t p))
+    where
+      judged-cases : (t : Tree) (q : ℕ) → read S limits x ≡ accepted t q → (m : Mapped (Policy Span)) → mapping (nodeOf x t 0) ≡ m → P (judged t m)
+      judged-cases t q e (good p) f = well t q p e f
+      judged-cases t q e (bad r) f = badly t r f
+
+      found-cases : (o : Outcome) → read S limits x ≡ o → P (mapTree x (found o))
+      found-cases (accepted t q) e = judged-cases t q e (mapping (nodeOf x t 0)) refl
+      found-cases (refused f p) e = faulty f p
+
+      pub findPolicy-cases : P (findPolicy S w v x)
+      findPolicy-cases =
+          by-test P (ltb v spanWords) _ _ (λ a. one (inl a))
+          (λ a. findTree-cases (λ (f : Found). P (mapTree x f)) (λ b. one (inr b)) two three found-cases)
+
+-- a policy that is found was read, so it is printable but for its length
+pub found-readable : (S : ℕ → Bool) (w v : ℕ) (x : Text) (t : Tree) (p : Policy Span) → findPolicy S w v x ≡ policy t p → Readable S x p
+found-readable S w v x t p =
+    findPolicy-cases S w v x IfPolicy (λ a. refused) refused (λ n. refused) (λ f n. refused) (λ u r m e. let z : _≡_ {A = ℕ} 0 1 = cc in absurd (omega arith))
+    (λ u q p′ e m same. let places : p′ ≡ p = cc in subst (Readable S x) places (readable S x u q p′ e m))
+  where
+    IfPolicy : FoundPolicy → Type 0
+    IfPolicy f = f ≡ policy t p → Readable S x p
+
+    refused : {r n : ℕ} → unread r n ≡ policy t p → Readable S x p
+    refused e = let z : _≡_ {A = ℕ} 0 1 = cc in absurd (omega arith)
+
+sized-cases : (P : Printing → Type 0) (t : Text) (r : ℕ) → P (unprinted 23 0) → P (unprinted 24 0) → (length t ≤ maxText → P (written t)) → P (sized t r)
+unfolding sized
+sized-cases P t r a b c =
+    by-test P (ltb maxText (length t)) _ _ (λ e. a) (λ e. by-test P (ltb r (length t)) _ _ (λ f. b) (λ f. c (ltb-false maxText (length t) e)))
+
+-- ---- the refusals
+
+faultNumber-range : (f : Fault) → (4 ≤ faultNumber f) × (faultNumber f ≤ 6)
+faultNumber-range syntax = between tt tt
+faultNumber-range tooDeep = between tt tt
+faultNumber-range tooMany = between tt tt
+
+refusal-range : (n : Node Span) (r : Refusal) → mapping n ≡ bad r → OfMapping (r .refusal)
+refusal-range n r e = rw e at (meets-mapping n)
+
+-- read a tree
+pub tree-refusals : (w : ℕ) (x : Text) → treeAnswer w x .refusal ≤ 6
+unfolding treeAnswer
+tree-refusals w x =
+    findTree-cases stringByte w 0 x (λ (f : Found). answered f .refusal ≤ 6) (λ a. lit≤ tt) (lit≤ tt) (λ p. lit≤ tt) (λ o e. outcome o)
+  where
+    outcome : (o : Outcome) → answered (found o) .refusal ≤ 6
+    outcome (accepted t q) = lit≤ tt
+    outcome (refused f p) = faultNumber-range f .1
+
+-- read a policy
+pub policy-refusals : (w v : ℕ) (x : Text) → policyAnswer w v x .answer .refusal ≤ 16
+unfolding policyAnswer
+policy-refusals w v x =
+    findPolicy-cases stringByte w v x (λ (f : FoundPolicy). policyAnswered f .answer .refusal ≤ 16) (λ a. lit≤ tt) (lit≤ tt) (λ p. lit≤ tt)
+    (λ f p. omega (arith, faultNumber-range f)) (λ t r e. refusal-range (nodeOf x t 0) r e .1) (λ t q p e f. lit≤ tt)
+
+-- print: 20 to 24. A text that is written is no longer than 8,192 bytes, a refusal is a P
+abbrev pub Gives : (ℕ → Type 0) → Printing → Type 0
+Gives P (written t) = length t ≤ maxText
+Gives P (unprinted r p) = P r
+
+unless-gives : (P : ℕ → Type 0) (r : ℕ) (o : Option ℕ) (next : Printing) → P r → Gives P next → Gives P (unlessFaulty r o next)
+unless-gives P r none next h k = k
+unless-gives P r (some i) next h k = h
+
+abbrev pub OfPrint : ℕ → Type 0
+OfPrint n = (20 ≤ n) × (n ≤ 24)
+
+pub print-gives : (S : ℕ → Bool) (k : Counted) (ws : Words) (x : Text) (r : ℕ) → Gives OfPrint (findPrint S k ws x r)
+unfolding findPrint
+print-gives S k ws x r =
+    by-test (Gives OfPrint) (shaped k) _ _
+    (λ e. unless-gives OfPrint 21 (firstFault (spanFits ws x) (stringCount k) 0) _ (between tt tt)
+    (unless-gives OfPrint 22 (firstFault (bytesFit S ws x) (stringCount k) 0) _ (between tt tt)
+    (sized-cases (Gives OfPrint) (printed (strings x (placed k ws))) r (between tt tt) (between tt tt) (λ h. h))))
+    (λ e. between tt tt)
+
+-- canonicalise: 1, 20, 21 and 22 are not among them
+abbrev pub OfCanonical : ℕ → Type 0
+OfCanonical n = ((2 ≤ n) × (n ≤ 16)) ⊎ ((23 ≤ n) × (n ≤ 24))
+
+pub canonical-gives : (S : ℕ → Bool) (x : Text) (r : ℕ) → Gives OfCanonical (findCanonical S x r)
+unfolding findCanonical
+canonical-gives S x r =
+    findPolicy-cases S nodeWords spanWords x (λ (f : FoundPolicy). Gives OfCanonical (reprinted S f x r))
+    (λ a. absurd (⊎-elim (λ h. true≢false (sym h)) (λ h. true≢false (sym h)) a)) (inl (between tt tt)) (λ p. inl (between tt tt))
+    (λ f p. inl (omega (arith, faultNumber-range f)))
+    (λ t n e. inl (omega (arith, refusal-range (nodeOf x t 0) n e)))
+    (λ t q p e m. rw (print-read S x p (readable S x t q p e m) _ r)
+    (sized-cases (Gives OfCanonical) (printed (strings x p)) r (inr (between tt tt)) (inr (between tt tt)) (λ h. h)))
+
+-- a canonicaliser's number is a length of at most 8,192, or 65,536 and one of its refusals
+pub canonical-numbers : (x : Text) (r n : ℕ) → canonicalAnswer x r ≡ refusalBase + n → OfCanonical n
+unfolding canonicalAnswer
+canonical-numbers x r n = at (findCanonical stringByte x r) (canonical-gives stringByte x r)
+  where
+    at : (w : Printing) → Gives OfCanonical w → oneNumber w ≡ refusalBase + n → OfCanonical n
+    at (written t) h e = absurd (omega arith)
+    at (unprinted m p) h e = subst OfCanonical (omega arith) h
+
+print-numbers : (k : Counted) (ws : Words) (x : Text) (r n : ℕ) → 0 < n → printAnswer k ws x r .refusal ≡ n → OfPrint n
+unfolding printAnswer
+print-numbers k ws x r n l = at (findPrint stringByte k ws x r) (print-gives stringByte k ws x r)
+  where
+    at : (w : Printing) → Gives OfPrint w → printAnswered w .refusal ≡ n → OfPrint n
+    at (written t) h e = absurd (omega arith)
+    at (unprinted m p) h e = subst OfPrint e h
+
+-- a number that canonicalise never gives, added to 65,536
+pub canonical-never : (x : Text) (r n : ℕ) → (OfCanonical n → ⊥) → canonicalAnswer x r ≡ refusalBase + n → ⊥
+canonical-never x r n h e = h (canonical-numbers x r n e)
+
+-- it never answers 1, 20, 21 or 22
+pub canonical-never-1 : (x : Text) (r : ℕ) → canonicalAnswer x r ≡ refusalBase + 1 → ⊥
+canonical-never-1 x r = canonical-never x r 1 (λ h. ⊎-elim (λ a. omega arith) (λ a. omega arith) h)
+
+pub canonical-never-20-to-22 : (x : Text) (r n : ℕ) → 20 ≤ n → n ≤ 22 → canonicalAnswer x r ≡ refusalBase + n → ⊥
+canonical-never-20-to-22 x r n low high = canonical-never x r n (λ h. ⊎-elim (λ a. omega arith) (λ a. omega arith) h)
+
+-- a refusal that no entry gives
+pub record Unseen (n : ℕ) : Type 0 where
+  pub readTree : (w : ℕ) (x : Text) → treeAnswer w x .refusal ≡ n → ⊥
+  pub readPolicy : (w v : ℕ) (x : Text) → policyAnswer w v x .answer .refusal ≡ n → ⊥
+  pub print : (k : Counted) (ws : Words) (x : Text) (r : ℕ) → printAnswer k ws x r .refusal ≡ n → ⊥
+  pub canonicalise : (x : Text) (r : ℕ) → canonicalAnswer x r ≡ refusalBase + n → ⊥
+
+pub unseen-17-18 : (n : ℕ) → 17 ≤ n → n ≤ 18 → Unseen n
+unseen-17-18 n low high =
+    record {
+      readTree = λ w x e. omega (arith, tree-refusals w x);
+      readPolicy = λ w v x e. omega (arith, policy-refusals w v x);
+      print = λ k ws x r e. let h = print-numbers k ws x r n (omega arith) e in omega arith;
+      canonicalise = λ x r. canonical-never x r n (λ h. ⊎-elim (λ a. omega arith) (λ a. omega arith) h);
+    }

@@ -1,0 +1,7 @@
+pub mod Names
+pub mod Policy
+pub mod Mapping
+pub mod Spans
+pub mod Printed
+pub mod Answers
+pub mod Laws
