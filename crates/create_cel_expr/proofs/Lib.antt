@@ -1,0 +1,7 @@
+pub mod Pieces
+pub mod Lists
+pub mod Sums
+pub mod Faults
+pub mod Shapes
+pub mod Verdicts
+pub mod Unique

@@ -1,0 +1,51 @@
+-- `write::create_default_response_only_cel_expr` meets its contract: three pieces, one after the other. Assumes nothing.
+use lib.ListN.{length-append}
+use native.Mathlib.Omega.{arith}
+use Rattle.cel_policy.specs.Printed.{responseOnlyText}
+use Rattle.create_cel_expr.proofs.Pieces.{wrote-then}
+use borrow.Author.Needs.{needs}
+use Rattle.create_cel_expr.proofs.write.create_default_response_only_cel_expr.Statement.{statement}
+use Rattle.create_cel_expr.proofs.write.create_default_response_only_cel_expr.Tie as tie
+
+slice-aggregate-put : tie.Need-slice-aggregate-put
+slice-aggregate-put c = search needs
+
+put-requires : tie.Need-put-requires
+unfolding responseOnlyText
+put-requires c κs =
+    omega (arith, simp length-append at (c .before .before .before .before .before .pre .1))
+
+create-response-cel-expr-requires : tie.Need-create-response-cel-expr-requires
+unfolding responseOnlyText
+create-response-cel-expr-requires c κs =
+    (c .before .before .before .before .before .before .before .before .before .pre .0, omega (arith, simp length-append at (c .before .before .before .before .before .before .before .before .before .pre .1), c .before .before .before .put .ensures .place, c .before .before .before .put .kept .0))
+
+slice-aggregate-put-2 : tie.Need-slice-aggregate-put-2
+slice-aggregate-put-2 c = search needs
+
+put-requires-2 : tie.Need-put-requires-2
+unfolding responseOnlyText
+put-requires-2 c κs =
+    omega (arith, simp length-append at (c .before .before .before .before .before .before .before .before .before .before .before .before .before .before .pre .1), c .before .before .before .before .before .before .before .before .put .ensures .place, c .before .before .before .before .before .before .before .before .put .kept .0, c .before .before .before .before .create-response-cel-expr .ensures .place, c .before .before .before .before .create-response-cel-expr .kept .0)
+
+same-length : tie.Need-same-length
+same-length c = search needs
+
+returns : tie.Need-returns
+unfolding responseOnlyText
+returns c =
+    wrote-then (c .before .before .before .before .before .before .before .before .before .before .before .put .ensures)
+    (wrote-then (c .before .before .before .before .before .before .before .create-response-cel-expr .ensures) (c .before .before .put2 .ensures) (simp length-append (omega (arith, simp length-append at (c .before .before .before .before .before .before .before .before .before .before .before .before .before .before .before .before .before .pre .1), c .before .before .before .before .before .before .before .before .before .before .before .put .ensures .place, c .before .before .before .before .before .before .before .before .before .before .before .put .kept .0))))
+    (c .before .before .before .before .before .before .before .before .before .before .before .before .before .before .before .before .before .pre .1)
+
+pub create-default-response-only-cel-expr-spec : {M : Type 1} → statement M
+create-default-response-only-cel-expr-spec =
+    tie.close
+    (tie.spec
+    slice-aggregate-put
+    put-requires
+    create-response-cel-expr-requires
+    slice-aggregate-put-2
+    put-requires-2
+    same-length
+    returns)

@@ -1,0 +1,24 @@
+-- `write::next` meets its contract: two pieces, one after the other. Assumes nothing.
+use Rattle.create_cel_expr.proofs.Pieces.{wrote-then}
+use borrow.Author.Needs.{needs}
+use Rattle.create_cel_expr.proofs.write.next.Statement.{statement}
+use Rattle.create_cel_expr.proofs.write.next.Tie as tie
+
+slice-aggregate-put : tie.Need-slice-aggregate-put
+slice-aggregate-put c = search needs
+
+put-requires : tie.Need-put-requires
+put-requires c κs = search needs
+
+string-requires : tie.Need-string-requires
+string-requires c κs = search needs
+
+same-length : tie.Need-same-length
+same-length c = search needs
+
+returns : tie.Need-returns
+returns c = wrote-then (c .before .before .before .before .before .before .put .ensures) (c .before .before .string .ensures) (c .before .before .before .before .before .before .before .before .before .before .before .before .pre .1)
+
+pub next-spec : {M : Type 1} → statement M
+next-spec =
+    tie.close (tie.spec slice-aggregate-put put-requires string-requires same-length returns)

@@ -1,0 +1,4 @@
+pub mod Over
+pub mod Given
+pub mod Measure
+pub mod Judged

@@ -1,0 +1,67 @@
+// Printing a policy: the port of create_cel_expr.rs. The policy is numbers from anyone, and so are the span table and the text;
+// `print_policy` refuses what is not printable and leaves the output alone then. Its contract cites the definitions of `cel_policy`.
+mod judge;
+mod measure;
+mod span;
+mod write;
+
+use judge::Verdict;
+ghost use mathlib.Core.Path.{_≡_};
+ghost use lib.ListN.{length};
+ghost use Rattle.cel_policy.specs.Answers.{printAnswer, printOutput};
+ghost use Rattle.create_cel_expr.specs.Given.{numbers, told};
+
+// A policy as numbers: form, list kind, and how many strings each list has.
+pub struct Policy {
+    pub form: u32,
+    pub kind: u32,
+    pub request: u32,
+    pub query: u32,
+    pub response: u32,
+}
+
+// Document 01's answer of printing.
+pub struct Printed {
+    pub refusal: u32,
+    pub name: u32,
+    pub kind: u32,
+    pub place: u32,
+    pub length: u32,
+}
+
+pub const SKIP: u32 = 1;
+
+pub const RESPONSE_ONLY: u32 = 2;
+
+pub const FULL: u32 = 3;
+
+pub const EXCLUSIONS: u32 = 2;
+
+pub const MAX_TEXT: usize = 8192;
+
+// Writes the policy's text to the front of `out`, or refuses with 20 to 24 and leaves `out` as it is.
+pub fn print_policy(policy: Policy, text: &[u8], spans: &[u32], out: &mut [u8]) -> Printed
+    ensures answer { λ r. ⌜ told r ≡ printAnswer (numbers policy) (now (spans .entry)) (now (text .entry)) (length (now (out .entry))) ⌝ }
+    ensures output { λ r. ⌜ now (out .exit) ≡ printOutput (numbers policy) (now (spans .entry)) (now (text .entry)) (now (out .entry)) ⌝ }
+{
+    let verdict = judge::judge(policy, text, spans, out.len());
+    match verdict {
+        Verdict::Refused(refusal, index) => Printed {
+            refusal,
+            name: 0,
+            kind: 0,
+            place: index as u32,
+            length: 0,
+        },
+        Verdict::Printable(length) => {
+            write::create_cel_expr(out, policy, text, spans);
+            Printed {
+                refusal: 0,
+                name: 0,
+                kind: 0,
+                place: 0,
+                length: length as u32,
+            }
+        }
+    }
+}

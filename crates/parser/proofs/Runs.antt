@@ -1,0 +1,68 @@
+-- Where a run of a class of bytes ends. Assumes nothing.
+use mathlib.Core.Path.{_≡_, refl, sym, ap, subst, _∙_}
+use Prim.Native.Nat.{ℕ, zero, suc, _+_, _≤_, _<_}
+use native.Mathlib.Nat.{add-zero}
+use native.Mathlib.Numerals.{add-one}
+use native.Mathlib.Omega.{arith}
+use mathlib.Core.Bool.{Bool, true, false}
+use mathlib.Core.List.{List, [], _∷_}
+use lib.ListN.{length, drop, getD, drop-of-length-le, length-drop}
+use lib.Seq.{drop-cons, getD-drop}
+use lib.Dec.{T}
+use Rattle.cel_text.specs.Byte.{Text, lead}
+use Rattle.parser.specs.Run.{endOf}
+
+-- a test is true or false
+pub decide : {P : Type 0} (b : Bool) → (b ≡ true → P) → (b ≡ false → P) → P
+decide true h k = h refl
+decide false h k = k refl
+
+module _ (f : ℕ → Bool) where
+  lead-stop : (x : Text) (p : ℕ) → f (getD x p 0) ≡ false → lead f (drop p x) ≡ 0
+  lead-stop [] zero h = refl
+  lead-stop [] (suc p) h = refl
+  lead-stop (b ∷ bs) zero h = rw h
+  lead-stop (b ∷ bs) (suc p) h = lead-stop bs p h
+
+  lead-within : (x : Text) → lead f x ≤ length x
+  lead-within [] = omega arith
+  lead-within (b ∷ bs) =
+      let more : lead f bs ≤ length bs = lead-within bs in
+      decide (f b) (λ t. rw t (omega arith)) (λ t. rw t (omega arith))
+
+  lead-other : f 0 ≡ false → (x : Text) → f (getD x (lead f x) 0) ≡ false
+  lead-other z [] = z
+  lead-other z (b ∷ bs) = decide (f b) (λ t. rw t (lead-other z bs)) (λ t. rw t t)
+
+  module _ (x : Text) where
+    -- past the text a run is empty
+    pub end-none : (p : ℕ) → length x ≤ p → endOf f x p ≡ p
+    end-none p h = rw (drop-of-length-le x h, add-zero)
+
+    -- a byte of another class ends it, one of this class does not
+    pub end-stop : (p : ℕ) → f (getD x p 0) ≡ false → endOf f x p ≡ p
+    end-stop p h = rw (lead-stop x p h, add-zero)
+
+    pub end-more : (p : ℕ) → p < length x → f (getD x p 0) ≡ true → endOf f x p ≡ endOf f x (suc p)
+    end-more p h t = rw (drop-cons x p 0 h, t) (omega arith)
+
+    -- the byte after a run is of another class, where the end of the text counts as one
+    pub end-other : f 0 ≡ false → (p : ℕ) → f (getD x (endOf f x p) 0) ≡ false
+    end-other z p = rw (getD-drop p x (lead f (drop p x)) 0) at (lead-other z (drop p x))
+
+    pub end-later : (p : ℕ) → p ≤ endOf f x p
+    end-later p = omega arith
+
+    pub end-within : (p : ℕ) → p ≤ length x → endOf f x p ≤ length x
+    end-within p h = omega (arith, lead-within (drop p x), length-drop p x)
+
+-- a byte that is not 0 stands within the text
+pub byte-within : (x : Text) (p : ℕ) → (getD x p 0 ≡ 0 → ⊥) → p < length x
+byte-within [] zero h = absurd (h refl)
+byte-within [] (suc p) h = absurd (h refl)
+byte-within (b ∷ bs) zero h = omega arith
+byte-within (b ∷ bs) (suc p) h = let rest : p < length bs = byte-within bs p h in omega arith
+
+-- a byte of a class that 0 is not in stands within the text
+pub class-within : (f : ℕ → Bool) → f 0 ≡ false → (x : Text) (p : ℕ) → f (getD x p 0) ≡ true → p < length x
+class-within f z x p t = byte-within x p (λ e. subst T (sym t ∙ ap f e ∙ z) tt)

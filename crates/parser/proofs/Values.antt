@@ -1,0 +1,226 @@
+-- The steps of reading a value, put together: from what the parts find to what the machine does from the value's start. Assumes nothing.
+use mathlib.Core.Path.{_≡_, refl, sym, ap, _∙_}
+use Prim.Native.Nat.{ℕ, zero, suc, _+_, _*_, _≤_, _<_, max}
+use native.Mathlib.Nat.{add-zero}
+use native.Mathlib.Numerals.{add-one}
+use native.Mathlib.Omega.{arith}
+use mathlib.Core.Bool.{Bool, true, false, cond}
+use mathlib.Core.List.{List, [], _∷_}
+use lib.ListN.{length, drop, getD}
+use lib.Seq.{sets}
+use lib.Dec.{eqb}
+use borrow.Author.Tests.{eq-eqb, ne-eqb, eqb-true, eqb-false}
+use Rattle.cel_text.specs.Byte.{Text, blank, identByte, stringByte, colon, comma, quote}
+use Rattle.cel_text.specs.Tree.{Kind, array, object, function, closer, Key, key, unkeyed, Tree, string, container, Trees, ∅, _▸_∶_, nodes, nodesAll, depth, depthAll, count}
+use Rattle.cel_text.specs.Reading.{Stack, inside, level, opened, Frame, Due, value, entry, State, before, quoted, begun, after, Step, go, refuse, Fault, syntax, tooDeep, tooMany, refused, child, whole, closed, fresh, enter, enterString, past, limits, withKey, withChild}
+use Rattle.cel_text.specs.Table.{Words, rowsOf, rowsAll, kindNumber, keyFrom, keyTo, stringKind}
+use Rattle.cel_text.specs.Laws.Run.{resume, whole-resumes}
+use Rattle.parser.specs.Run.{endOf, NamedAt}
+use Rattle.parser.specs.Kinds.{kindOf, openerKind, opens, openState}
+use Rattle.parser.specs.Steps.{reads, goesOn, Around, RefusedBy, Headed, Entered, Barred, Whole, WholeList, Labelled, Coloned, Colonless}
+use Rattle.parser.proofs.Runs.{decide, end-later, end-within, byte-within}
+use Rattle.parser.proofs.Machine.{named-from, over-opener, over-key, over-string, closing, begun-closes, begun-child, after-closes, after-comma, after-other}
+use Rattle.parser.proofs.Rows.{rows-child, rows-string, rows-container}
+
+-- ---- the limits
+
+around-deep : {K : Stack} {n left : ℕ} → Around K n left → left ≡ 0 → eqb (suc (level K)) 33 ≡ true
+around-deep {K = K} a e = eq-eqb (suc (level K)) 33 (omega (arith, a .below))
+
+around-shallow : {K : Stack} {n left : ℕ} → Around K n left → (left ≡ 0 → ⊥) → eqb (suc (level K)) 33 ≡ false
+around-shallow {K = K} a h = ne-eqb (suc (level K)) 33 (λ e. omega (arith, a .below))
+
+around-full : {K : Stack} {n left : ℕ} → Around K n left → n ≡ 256 → eqb (opened K) 256 ≡ true
+around-full {K = K} a e = eq-eqb (opened K) 256 (a .sofar ∙ e)
+
+around-room : {K : Stack} {n left : ℕ} → Around K n left → (n ≡ 256 → ⊥) → eqb (opened K) 256 ≡ false
+around-room {K = K} a h = ne-eqb (opened K) 256 (λ e. h (sym (a .sofar) ∙ e))
+
+module _ (kind p n left : ℕ) where
+  pub barred-none : kind ≡ 0 → Barred kind p n left 4 p
+  barred-none e = record { fault = syntax; number = refl; refuses = λ K from to a. rw e; there = refl }
+
+  opens-string : kind ≡ 1 → (K : Stack) (from to : ℕ) → opens kind K from to p ≡ enterString stringByte limits K p
+  opens-string e K from to = rw e
+
+  opens-container : (kind ≡ 0 → ⊥) → (kind ≡ 1 → ⊥) → (K : Stack) (from to : ℕ) → opens kind K from to p ≡ enter stringByte limits (kindOf kind) K from to p
+  opens-container h₀ h₁ K from to = rw (ne-eqb kind 0 h₀, ne-eqb kind 1 h₁)
+
+  pub barred-string : kind ≡ 1 → n ≡ 256 → Barred kind p n left 6 p
+  unfolding enterString
+  barred-string e full = record { fault = tooMany; number = refl; refuses = λ K from to a. opens-string e K from to ∙ rw (around-full a full); there = refl }
+
+  pub entered-string : kind ≡ 1 → (n ≡ 256 → ⊥) → n ≤ 256 → Entered kind p n left (p + 1)
+  unfolding enterString
+  entered-string e some few =
+      record {
+        next = add-one p;
+        some = λ z. omega arith;
+        room = omega arith;
+        deeper = λ h. absurd (h e);
+        goes = λ K from to a. opens-string e K from to ∙ rw (around-room a some, e);
+      }
+
+  module _ (h₀ : kind ≡ 0 → ⊥) (h₁ : kind ≡ 1 → ⊥) where
+    pub barred-deep : left ≡ 0 → Barred kind p n left 5 p
+    unfolding enter
+    barred-deep e = record { fault = tooDeep; number = refl; refuses = λ K from to a. opens-container h₀ h₁ K from to ∙ rw (around-deep a e); there = refl }
+
+    pub barred-many : (left ≡ 0 → ⊥) → n ≡ 256 → Barred kind p n left 6 p
+    unfolding enter
+    barred-many l full =
+        record { fault = tooMany; number = refl; refuses = λ K from to a. opens-container h₀ h₁ K from to ∙ rw (around-shallow a l, around-full a full); there = refl }
+
+    pub entered-container : (left ≡ 0 → ⊥) → (n ≡ 256 → ⊥) → n ≤ 256 → Entered kind p n left (p + 1)
+    unfolding enter
+    entered-container l some few =
+        record {
+          next = add-one p;
+          some = h₀;
+          room = omega arith;
+          deeper = λ h. omega arith;
+          goes = λ K from to a. opens-container h₀ h₁ K from to ∙ rw (around-shallow a l, around-room a some, ne-eqb kind 1 h₁);
+        }
+
+-- ---- what opens a value
+
+opener-byte : (e : Bool) (b : ℕ) → (openerKind e b ≡ 0 → ⊥) → b ≡ 0 → ⊥
+opener-byte e b h z = h (rw z)
+
+opener-numbered : (e : Bool) (b : ℕ) → (openerKind e b ≡ 0 → ⊥) → (openerKind e b ≡ 1 → ⊥) → kindNumber (kindOf (openerKind e b)) ≡ openerKind e b
+opener-numbered e b h₀ h₁ =
+    decide (eqb b 123) (λ t. rw t) (λ t₁. decide (eqb b 40) (λ t. rw (t₁, t)) (λ t₂. decide (eqb b 91) (bracket t₁ t₂) (λ t₃. decide (eqb b 34) (mark t₁ t₂ t₃) (λ t. absurd (h₀ (rw (t₁, t₂, t₃, t)))))))
+  where
+    bracket : eqb b 123 ≡ false → eqb b 40 ≡ false → eqb b 91 ≡ true → kindNumber (kindOf (openerKind e b)) ≡ openerKind e b
+    bracket t₁ t₂ t = decide e (λ y. rw (t₁, t₂, t, y)) (λ y. absurd (h₀ (rw (t₁, t₂, t, y))))
+
+    mark : eqb b 123 ≡ false → eqb b 40 ≡ false → eqb b 91 ≡ false → eqb b 34 ≡ true → kindNumber (kindOf (openerKind e b)) ≡ openerKind e b
+    mark t₁ t₂ t₃ t = decide e (λ y. absurd (h₁ (rw (t₁, t₂, t₃, t, y)))) (λ y. absurd (h₀ (rw (t₁, t₂, t₃, t, y))))
+
+named-in : (kind p l : ℕ) → p ≤ l → named-from kind p ≤ l
+named-in kind p l h = decide (eqb kind 2) (λ t. rw t (omega arith)) (λ t. rw t h)
+
+-- where a name stands
+pub record Bounds (x : Text) (p from to end : ℕ) : Type 0 where
+  pub later : p ≤ end
+  pub fromIn : from ≤ length x
+  pub toIn : to ≤ length x
+  pub within : end ≤ length x
+
+pub name-bounds : (x : Text) {p from to end : ℕ} → NamedAt x p from to end → p ≤ length x → Bounds x p from to end
+name-bounds x {p} {from} {to} {end} n h =
+    let h₁ : from ≤ length x = rw (n .begins) (end-within blank x p h) in
+    let h₂ : to ≤ length x = rw (n .stops) (end-within identByte x from h₁) in
+    let h₃ : end ≤ length x = rw (n .ends) (end-within blank x to h₂) in
+    record { later = omega (arith, n .begins, n .stops, n .ends); fromIn = h₁; toIn = h₂; within = h₃ }
+
+pub headed : (x : Text) {p from to end : ℕ} → NamedAt x p from to end → p ≤ length x → (kind from′ to′ : ℕ) → kind ≡ openerKind (eqb from to) (getD x end 0)
+    → from′ ≡ named-from kind from → to′ ≡ named-from kind to → Headed x p kind from′ to′ end
+headed x {p} {from} {to} {end} n h kind from′ to′ e ef et =
+    let b : Bounds x p from to end = name-bounds x n h in
+    record {
+      enters = λ K. rw (ef, et) (over-opener x n K kind e);
+      later = b .later;
+      within = b .within;
+      opener = λ s. byte-within x end (opener-byte (eqb from to) (getD x end 0) (λ z. s (e ∙ z)));
+      fromIn = rw ef (named-in kind from (length x) (b .fromIn));
+      toIn = rw et (named-in kind to (length x) (b .toIn));
+      numbered = λ s t. rw e (opener-numbered (eqb from to) (getD x end 0) (λ z. s (e ∙ z)) (λ z. t (e ∙ z)));
+    }
+
+-- ---- a value, from where it is due
+
+-- what is read from a later place in another state is read from here, where the machine gets there
+pub whole-from : {st st′ : Stack → State} {x : Text} {w w′ : Words} {at p n left kf kt u q m d : ℕ} → ((K : Stack) → Around K n left → reads (st K) x at ≡ reads (st′ K) x p) → at ≤ p
+    → Whole st′ x w w′ p n left kf kt u q m d → Whole st x w w′ at n left kf kt u q m d
+whole-from gets h v =
+    record {
+      tree = v .tree;
+      reading = λ K a. gets K a ∙ v .reading K a;
+      counts = v .counts;
+      deep = v .deep;
+      rows = v .rows;
+      later = omega (arith, v .later);
+      within = v .within;
+      more = v .more;
+      room = v .room;
+      shallow = v .shallow;
+    }
+
+pub refused-from : {st st′ : Stack → State} {x : Text} {at p n left r q : ℕ} → ((K : Stack) → Around K n left → reads (st K) x at ≡ reads (st′ K) x p)
+    → RefusedBy st′ x p n left r q → RefusedBy st x at n left r q
+refused-from gets v = record { fault = v .fault; number = v .number; refuses = λ K a. gets K a ∙ v .refuses K a; within = v .within }
+
+module _ {x : Text} {at kind from to o : ℕ} (h : Headed x at kind from to o) (n left : ℕ) where
+  pub value-barred : {r q : ℕ} → Barred kind o n left r q → RefusedBy (λ K. before (value K)) x at n left r q
+  value-barred b =
+      record {
+        fault = b .fault;
+        number = b .number;
+        refuses = λ K a. h .enters K ∙ ap (λ (s : Step). goesOn s x o) (b .refuses K from to a) ∙ ap (refused (b .fault)) (sym (b .there));
+        within = rw (b .there) (h .within);
+      }
+
+  module _ {q : ℕ} (e : Entered kind o n left q) where
+    value-enters : (K : Stack) → Around K n left → reads (before (value K)) x at ≡ reads (openState kind K from to o) x q
+    value-enters K a = h .enters K ∙ ap (λ (s : Step). goesOn s x o) (e .goes K from to a) ∙ ap (reads (openState kind K from to o) x) (sym (e .next))
+
+    pub at-string : kind ≡ 1 → (K : Stack) → Around K n left → reads (before (value K)) x at ≡ reads (quoted K o) x q
+    at-string k K a = value-enters K a ∙ rw k
+
+    pub at-container : (kind ≡ 1 → ⊥) → (K : Stack) → Around K n left → reads (before (value K)) x at ≡ reads (begun K (fresh (kindOf kind) o from to)) x q
+    at-container k K a = value-enters K a ∙ rw (ne-eqb kind 1 k)
+
+    pub value-later : at ≤ q
+    value-later = omega (arith, h .later, e .next)
+
+    -- a container whose row was begun before its list was read
+    pub value-list : {w w₁ w₂ : Words} {left′ kf kt u q′ m d : ℕ} → (kind ≡ 1 → ⊥) → left ≡ suc left′ → w₁ ≡ sets w (8 * n) (kind ∷ from ∷ to ∷ kf ∷ kt ∷ u ∷ [])
+        → WholeList x w₁ w₂ q n (kindOf kind) left′ q′ m d → Whole (λ K. before (value K)) x w w₂ at n left kf kt u q′ m d
+    value-list {w = w} {w₁ = w₁} {left′ = left′} {kf = kf} {kt = kt} {u = u} {q′ = q′} {m = m} k hl hw v =
+        let begun-row : w₁ ≡ sets w (8 * n) (kindNumber (kindOf kind) ∷ from ∷ to ∷ kf ∷ kt ∷ u ∷ []) = hw ∙ ap (λ (i : ℕ). sets w (8 * n) (i ∷ from ∷ to ∷ kf ∷ kt ∷ u ∷ [])) (sym (h .numbered (e .some) k)) in
+        record {
+          tree = container (kindOf kind) o from to q′ (v .children);
+          reading = λ K a. at-container k K a ∙ v .reading K o from to (record { below = ap (λ (l : ℕ). level K + l) (sym hl) ∙ a .below; sofar = a .sofar });
+          counts = omega (arith, v .counts);
+          deep = v .deep;
+          rows = λ i ef et. v .rows ∙ rw begun-row (rows-container w (kindOf kind) o from to q′ kf kt u n m (v .children) i ef et (v .counts));
+          later = omega (arith, v .later, h .later, e .next);
+          within = v .within;
+          more = omega (arith, v .counts);
+          room = v .room;
+          shallow = omega (arith, v .shallow);
+        }
+
+-- ---- a string, from the place after its first quote
+
+module _ (x : Text) (o at to end n left : ℕ) (ht : to ≡ endOf stringByte x at) (he : end ≡ endOf blank x to) (hi : at ≤ length x) where
+  end-in : end ≤ length x
+  end-in = rw he (end-within blank x to (rw ht (end-within stringByte x at hi)))
+
+  pub string-refused : (getD x end 0 ≡ 34 → ⊥) → RefusedBy (λ K. quoted K o) x at n left 4 end
+  string-refused h =
+      record {
+        fault = syntax;
+        number = refl;
+        refuses = λ K a. over-string K o x at to end ht he ∙ rw (ne-eqb (getD x end 0) 34 h);
+        within = end-in;
+      }
+
+  pub string-whole : {w w₁ w₂ : Words} {kf kt u : ℕ} → getD x end 0 ≡ 34 → n < 256 → at ≡ suc o
+      → w₁ ≡ sets w (8 * n) (1 ∷ at ∷ to ∷ kf ∷ kt ∷ u ∷ []) → w₂ ≡ sets w₁ (8 * n + 6) (0 ∷ (n + 1) ∷ [])
+      → Whole (λ K. quoted K o) x w w₂ at n left kf kt u (end + 1) (n + 1) 0
+  string-whole {w = w} {kf = kf} {kt = kt} {u = u} h room ho h₁ h₂ =
+      let inside : end < length x = byte-within x end (λ z. omega (arith, h)) in
+      record {
+        tree = string o to (suc end);
+        reading = λ K a. over-string K o x at to end ht he ∙ rw (eq-eqb (getD x end 0) 34 h, add-one) (whole-resumes stringByte limits K (string o to (suc end)) end (drop (suc end) x));
+        counts = refl;
+        deep = refl;
+        rows = λ k ef et. h₂ ∙ rw (h₁, ho, add-one) (rows-string w o to (suc end) kf kt u n k ef et);
+        later = omega (arith, ht, he);
+        within = omega arith;
+        more = omega arith;
+        room = omega arith;
+        shallow = omega arith;
+      }

@@ -1,0 +1,61 @@
+-- `value::string` meets its contract: content, blanks and a quote are what the machine takes, and the row is put in two parts. Assumes nothing.
+use mathlib.Core.Path.{sym, _∙_}
+use Prim.Native.Nat.{_≤_}
+use borrow.Author.Needs.{needs}
+use lib.ListN.{length}
+use Rattle.cel_text.specs.Byte.{blank, stringByte}
+use Rattle.parser.proofs.Runs.{end-within}
+use Rattle.parser.proofs.Values.{string-refused, string-whole}
+use Rattle.parser.proofs.value.string.Statement.{statement}
+use Rattle.parser.proofs.value.string.Tie as tie
+use native.Mathlib.Omega.{arith}
+
+run-of-requires : tie.Need-run-of-requires
+run-of-requires c κs = search needs
+
+run-of-requires-2 : tie.Need-run-of-requires-2
+run-of-requires-2 c κs = search needs
+
+peek-requires : tie.Need-peek-requires
+peek-requires c κs = search needs
+
+returns : tie.Need-returns
+returns c = λ o left. string-refused (c .before .before .before .before .before .before .args .text .now) o (c .before .before .before .before .before .before .args .at .0) (c .before .before .before .run-of .result .0) (c .before .before .run-of2 .result .0) (c .before .before .before .before .before .before .args .node .0) left (c .before .before .before .run-of .ensures) (c .before .before .run-of2 .ensures) (c .before .before .before .before .before .before .pre .0 .0) (λ e. c .if1 .taken (c .before .peek .ensures ∙ e))
+
+add-t14 : tie.Need-add-t14
+add-t14 c = search needs
+
+open-row-requires : tie.Need-open-row-requires
+open-row-requires c κs =
+    let h : c .before .before .before .before .before .run-of .result .0 ≤ length (c .before .before .before .before .before .before .before .before .args .text .now) = rw (c .before .before .before .before .before .run-of .ensures) (end-within stringByte (c .before .before .before .before .before .before .before .before .args .text .now) (c .before .before .before .before .before .before .before .before .args .at .0) (c .before .before .before .before .before .before .before .before .pre .0 .0)) in
+    omega arith
+
+close-row-requires : tie.Need-close-row-requires
+close-row-requires c κs = search needs
+
+add-t14-2 : tie.Need-add-t14-2
+add-t14-2 c =
+    let h : c .before .before .before .before .before .before .before .before .before .before .before .before .before .run-of .result .0 ≤ length (c .before .before .before .before .before .before .before .before .before .before .before .before .before .before .before .before .args .text .now) = rw (c .before .before .before .before .before .before .before .before .before .before .before .before .before .run-of .ensures) (end-within stringByte (c .before .before .before .before .before .before .before .before .before .before .before .before .before .before .before .before .args .text .now) (c .before .before .before .before .before .before .before .before .before .before .before .before .before .before .before .before .args .at .0) (c .before .before .before .before .before .before .before .before .before .before .before .before .before .before .before .before .pre .0 .0)) in
+    let h′ : c .before .before .before .before .before .before .before .before .before .before .before .before .run-of2 .result .0 ≤ length (c .before .before .before .before .before .before .before .before .before .before .before .before .before .before .before .before .args .text .now) = rw (c .before .before .before .before .before .before .before .before .before .before .before .before .run-of2 .ensures) (end-within blank (c .before .before .before .before .before .before .before .before .before .before .before .before .before .before .before .before .args .text .now) (c .before .before .before .before .before .before .before .before .before .before .before .before .before .run-of .result .0) h) in
+    omega arith
+
+same-length : tie.Need-same-length
+same-length c = search needs
+
+returns-2 : tie.Need-returns-2
+returns-2 c = λ o left h. string-whole (c .before .before .before .before .before .before .before .before .before .before .before .before .before .before .before .before .args .text .now) o (c .before .before .before .before .before .before .before .before .before .before .before .before .before .before .before .before .args .at .0) (c .before .before .before .before .before .before .before .before .before .before .before .before .before .run-of .result .0) (c .before .before .before .before .before .before .before .before .before .before .before .before .run-of2 .result .0) (c .before .before .before .before .before .before .before .before .before .before .before .before .before .before .before .before .args .node .0) left (c .before .before .before .before .before .before .before .before .before .before .before .before .before .run-of .ensures) (c .before .before .before .before .before .before .before .before .before .before .before .before .run-of2 .ensures) (c .before .before .before .before .before .before .before .before .before .before .before .before .before .before .before .before .pre .0 .0) (sym (c .before .before .before .before .before .before .before .before .before .before .before .peek .ensures) ∙ c .before .before .before .before .before .before .before .before .before .before .if1 .left) (c .before .before .before .before .before .before .before .before .before .before .before .before .before .before .before .before .pre .0 .2) h (c .before .before .before .before .before .before .before .open-row .ensures) (c .before .before .before .close-row .ensures)
+
+pub string-spec : {M : Type 1} → statement M
+string-spec =
+    tie.close
+    (tie.spec
+    run-of-requires
+    run-of-requires-2
+    peek-requires
+    returns
+    add-t14
+    open-row-requires
+    close-row-requires
+    add-t14-2
+    same-length
+    returns-2)

@@ -1,0 +1,4 @@
+pub mod Run
+pub mod Kinds
+pub mod Steps
+pub mod Found

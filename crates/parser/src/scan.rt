@@ -1,0 +1,109 @@
+// Bytes of the text, one at a time and by runs of a class.
+ghost use mathlib.Core.Path.{_≡_};
+ghost use lib.ListN.{getD};
+ghost use Rattle.cel_text.specs.Byte.{blank, alphanumeric};
+ghost use Rattle.parser.specs.Run.{classOf, endOf, NamedAt};
+use crate::Place;
+
+// The classes of bytes that runs are made of.
+pub enum Class {
+    Blank,
+    Ident,
+    Content,
+    Ascii,
+}
+
+// A run of blanks, an identifier and a run of blanks: the identifier's ends and the place after them all.
+pub(crate) struct Name {
+    pub from: Place,
+    pub to: Place,
+    pub end: Place,
+}
+
+// The byte at a place, 0 past the end: no byte that reading looks for is 0.
+pub(crate) fn peek(text: &[u8], at: Place) -> u8
+    ensures { λ r. ⌜ r ≡ getD (now (text .entry)) (at .0) 0 ⌝ }
+{
+    let i = at.0;
+    if i < text.len() { text[i] } else { 0 }
+}
+
+// The end of the run of bytes of this class that begins here.
+pub fn run_of(text: &[u8], at: Place, class: Class) -> Place
+    ensures { λ r. ⌜ r .0 ≡ endOf (classOf class) (now (text .entry)) (at .0) ⌝ }
+{
+    let mut i = at.0;
+    while i < text.len() {
+        if !has(class, text[i]) {
+            return Place(i);
+        }
+        i += 1;
+    }
+    Place(i)
+}
+
+pub(crate) fn ident(text: &[u8], at: Place) -> Name
+    ensures { λ r. ⌜ NamedAt (now (text .entry)) (at .0) (r .from .0) (r .to .0) (r .end .0) ⌝ }
+{
+    let from = run_of(text, at, Class::Blank);
+    let to = run_of(text, from, Class::Ident);
+    let end = run_of(text, to, Class::Blank);
+    Name { from, to, end }
+}
+
+fn has(class: Class, b: u8) -> bool
+    ensures { λ r. ⌜ r ≡ classOf class b ⌝ }
+{
+    match class {
+        Class::Blank => is_blank(b),
+        Class::Ident => {
+            if is_alphanumeric(b) {
+                return true;
+            }
+            b == b'_'
+        }
+        Class::Content => {
+            if is_alphanumeric(b) {
+                return true;
+            }
+            b == b'-'
+        }
+        Class::Ascii => b < 128,
+    }
+}
+
+fn is_blank(b: u8) -> bool
+    ensures { λ r. ⌜ r ≡ blank b ⌝ }
+{
+    if b == b' ' {
+        return true;
+    }
+    if b == b'\t' {
+        return true;
+    }
+    if b == b'\n' {
+        return true;
+    }
+    b == b'\r'
+}
+
+fn is_alphanumeric(b: u8) -> bool
+    ensures { λ r. ⌜ r ≡ alphanumeric b ⌝ }
+{
+    if b < b'0' {
+        return false;
+    }
+    if b <= b'9' {
+        return true;
+    }
+    if b < b'A' {
+        return false;
+    }
+    if b <= b'Z' {
+        return true;
+    }
+    if b < b'a' {
+        return false;
+    }
+    b <= b'z'
+}
