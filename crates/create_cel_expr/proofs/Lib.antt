@@ -4,4 +4,4 @@ pub mod Sums
 pub mod Faults
 pub mod Shapes
 pub mod Verdicts
-pub mod Unique
+pub mod Same

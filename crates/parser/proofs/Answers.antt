@@ -1,23 +1,22 @@
 -- From the value that a text begins with to the answer and the table of `read_tree`. Assumes nothing.
 use mathlib.Core.Path.{_≡_, refl, sym, ap, _∙_}
-use Prim.Native.Nat.{ℕ, zero, suc, _+_, _-_, _*_, _≤_, _<_}
+use Prim.Native.Nat.{ℕ, _+_, _-_, _*_, _≤_, _<_}
 use native.Mathlib.Nat.{zero-add}
 use native.Mathlib.Omega.{arith}
 use mathlib.Core.Bool.{Bool, true, false, cond}
-use mathlib.Core.List.{List, [], _∷_, _++_, append-nil, append-assoc}
+use mathlib.Core.List.{[], _++_, append-nil, append-assoc}
 use lib.ListN.{length, take, drop, replicate, drop-of-length-le, take-append-drop}
-use lib.Seq.{sets, sets-eq, take-at, length-take-le, length-sets}
-use lib.Dec.{ltb, leb, eqb}
+use lib.Seq.{sets-eq, take-at, length-take-le}
 use borrow.Author.Tests.{lt-ltb, le-ltb, ne-eqb, le-leb}
 use Rattle.cel_text.specs.Byte.{Text, ascii, lead, stringByte}
-use Rattle.cel_text.specs.Tree.{Tree, nodes, depth, unkeyed}
-use Rattle.cel_text.specs.Reading.{Fault, syntax, tooDeep, tooMany, Outcome, accepted, refused, root, read, limits}
+use Rattle.cel_text.specs.Tree.{Tree, nodes, unkeyed}
+use Rattle.cel_text.specs.Reading.{Fault, syntax, tooDeep, tooMany, root, read, limits}
 use Rattle.cel_text.specs.Table.{Words, rows, Left, untouched, cleared, filled, hold, nodesLeft, nodeWords}
-use Rattle.cel_text.specs.Answer.{Answer, Found, tree, fault, found, findTree, answered, nodesAfter, treeAnswer, treeTable, faultNumber, maxText}
+use Rattle.cel_text.specs.Answer.{Found, tree, fault, found, findTree, nodesAfter, treeAnswer, treeTable, faultNumber, maxText}
 use Rattle.parser.specs.declared.Step.{Step}
 use Rattle.parser.specs.declared.Step.the-variants.{Next, Refused}
 use Rattle.parser.specs.Run.{endOf}
-use Rattle.parser.specs.Steps.{Around, Valued}
+use Rattle.parser.specs.Steps.{Valued}
 use Rattle.parser.specs.Found.{Finds, Small, answerOf, uses, spareFrom}
 use Rattle.parser.proofs.Rows.{length-rowsOf}
 

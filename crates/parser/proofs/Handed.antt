@@ -1,28 +1,26 @@
 -- The answers of the steps, taken apart: a refusal is handed up as it is, and what was read goes into what its caller reads. Assumes nothing.
-use mathlib.Core.Path.{_≡_, refl, sym, ap, subst, _∙_}
-use Prim.Native.Nat.{ℕ, suc, _+_, _*_, _≤_, _<_, max}
+use mathlib.Core.Path.{_≡_, sym, subst, _∙_}
+use Prim.Native.Nat.{ℕ, suc, _*_, _≤_}
 use native.Mathlib.Omega.{arith}
-use mathlib.Core.Bool.{true, false}
 use mathlib.Core.List.{[], _∷_}
-use lib.ListN.{length, getD}
+use lib.ListN.{length}
 use lib.Seq.{sets}
 use lib.Dec.{eqb}
 use borrow.Author.Tests.{eqb-true, eqb-false}
 use Rattle.cel_text.specs.Byte.{Text, blank}
-use Rattle.cel_text.specs.Tree.{Kind, closer}
-use Rattle.cel_text.specs.Reading.{Stack, before, value, begun, fresh, syntax}
+use Rattle.cel_text.specs.Reading.{before, value, begun, fresh}
 use Rattle.cel_text.specs.Table.{Words}
 use Rattle.parser.specs.declared.Step.{Step}
 use Rattle.parser.specs.declared.Step.the-variants.{Next, Refused}
 use Rattle.parser.specs.declared.Place.{Place}
 use Rattle.parser.specs.declared.Node.{Node}
-use Rattle.parser.specs.Run.{endOf, NamedAt}
+use Rattle.parser.specs.Run.{endOf}
 use Rattle.parser.specs.Kinds.{kindOf}
-use Rattle.parser.specs.Steps.{reads, Around, RefusedBy, Headed, Entered, Opens, Whole, WholeList, Valued, Quoted, Labelled, Coloned, Colonless, Keyed, Listed}
-use Rattle.parser.proofs.Runs.{decide, end-stop, end-other}
+use Rattle.parser.specs.Steps.{RefusedBy, Headed, Entered, Opens, Whole, Valued, Quoted, Labelled, Colonless, Keyed, Listed}
+use Rattle.parser.proofs.Runs.{decide, end-stop}
 use Rattle.parser.proofs.Machine.{over-begun, not-blank}
 use Rattle.parser.proofs.Values.{Bounds, name-bounds, whole-from, refused-from, value-barred, at-string, at-container, value-later, value-list}
-use Rattle.parser.proofs.Lists.{Labelling, labelling, unlabelled, Due-child, Read-child, child-read, child-refused, key-refused}
+use Rattle.parser.proofs.Lists.{Labelling, labelling, unlabelled, Due-child, child-refused, key-refused}
 
 module _ {x : Text} {at kind from to o : ℕ} (h : Headed x at kind from to o) (n left : ℕ) where
   pub barred-up : (w w′ : Words) (kf kt u : ℕ) {r : ℕ} {q : Place} {s : Step} → s ≡ Refused r q → Opens kind o n left s → Valued x w w′ at n left kf kt u s

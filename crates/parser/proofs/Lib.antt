@@ -7,4 +7,5 @@ mod Values
 mod Lists
 mod Handed
 mod Answers
-pub mod Unique
+pub mod Same
+pub mod Accepted

@@ -1,25 +1,22 @@
 -- The steps of reading a list: a child's key, the children so far, the closer. Assumes nothing.
 use mathlib.Core.Path.{_≡_, refl, sym, ap, _∙_}
-use Prim.Native.Nat.{ℕ, zero, suc, _+_, _*_, _≤_, _<_, max}
-use native.Mathlib.Nat.{add-zero}
+use Prim.Native.Nat.{ℕ, suc, _+_, _*_, _≤_, _<_, max}
 use native.Mathlib.Numerals.{add-one}
 use native.Mathlib.Omega.{arith}
-use mathlib.Core.Bool.{true, false}
 use mathlib.Core.List.{[], _∷_}
 use lib.ListN.{length, drop, getD}
 use lib.Seq.{sets, length-sets}
 use lib.Dec.{eqb}
 use borrow.Author.Tests.{ne-eqb, eqb-true, eqb-false}
 use Rattle.cel_text.specs.Byte.{Text, blank, stringByte, colon, comma}
-use Rattle.cel_text.specs.Tree.{Kind, array, object, function, closer, Key, key, unkeyed, Tree, container, Trees, ∅, _▸_∶_, nodes, nodesAll, depth, depthAll, count}
-use Rattle.cel_text.specs.Reading.{Stack, inside, Frame, value, entry, State, before, begun, after, Step, go, refuse, Fault, syntax, refused, child, whole, closed, fresh, past, limits, withKey}
+use Rattle.cel_text.specs.Tree.{Kind, array, object, function, closer, Key, key, unkeyed, container, Trees, ∅, _▸_∶_, nodesAll, depthAll, count}
+use Rattle.cel_text.specs.Reading.{Stack, inside, Frame, value, entry, State, before, begun, after, Step, go, refuse, syntax, refused, child, fresh, past, limits, withKey}
 use Rattle.cel_text.specs.Table.{Words, rowsOf, rowsAll, keyFrom, keyTo}
-use Rattle.cel_text.specs.Answer.{faultNumber}
-use Rattle.cel_text.specs.Laws.Run.{resume, whole-resumes}
+use Rattle.cel_text.specs.Laws.Run.{whole-resumes}
 use Rattle.parser.specs.Run.{endOf, NamedAt}
 use Rattle.parser.specs.Kinds.{kindOf}
 use Rattle.parser.specs.Steps.{reads, goesOn, Around, RefusedBy, Whole, WholeList, Labelled, Coloned, Colonless}
-use Rattle.parser.proofs.Runs.{decide, end-later, end-within, byte-within}
+use Rattle.parser.proofs.Runs.{decide, end-within, byte-within}
 use Rattle.parser.proofs.Machine.{over-key, begun-closes, begun-child, after-closes, after-comma, after-other}
 use Rattle.parser.proofs.Rows.{rows-child}
 use Rattle.parser.proofs.Values.{Bounds, name-bounds}

@@ -1,22 +1,22 @@
 -- What the machine of `cel_text` does over what the steps of reading find: a byte, a run, a name, an opener, a key. Assumes nothing.
 use mathlib.Core.Path.{_≡_, refl, sym, ap, _∙_}
-use Prim.Native.Nat.{ℕ, zero, suc, _+_, _≤_, _<_}
+use Prim.Native.Nat.{ℕ, zero, suc, _+_}
 use native.Mathlib.Nat.{add-zero}
 use native.Mathlib.Omega.{arith}
 use mathlib.Core.Bool.{Bool, true, false, cond}
-use mathlib.Core.List.{List, [], _∷_}
-use lib.ListN.{length, drop, getD}
+use mathlib.Core.List.{[], _∷_}
+use lib.ListN.{drop, getD}
 use lib.Seq.{drop-drop}
 use lib.Dec.{eqb}
-use borrow.Author.Tests.{eq-eqb, ne-eqb, eqb-true, eqb-false}
-use Rattle.cel_text.specs.Byte.{Text, blank, identByte, stringByte, alphanumeric, lead, colon, comma, quote}
-use Rattle.cel_text.specs.Tree.{Kind, array, object, function, closer, Key, key, unkeyed, Tree, string, Trees}
-use Rattle.cel_text.specs.Reading.{Stack, inside, Frame, Due, value, entry, State, before, naming, named, quoted, dropping, begun, after, Step, go, refuse, syntax, refused, Outcome, child, whole, closed, enter, enterString, past, bare, start, unquote, step, follow, run, limits, withKey}
+use borrow.Author.Tests.{eq-eqb, ne-eqb, eqb-true}
+use Rattle.cel_text.specs.Byte.{Text, blank, identByte, stringByte, alphanumeric, lead, comma, quote}
+use Rattle.cel_text.specs.Tree.{Kind, array, object, function, closer, string}
+use Rattle.cel_text.specs.Reading.{Stack, Frame, Due, value, entry, State, before, naming, named, quoted, dropping, begun, after, Step, go, refuse, syntax, refused, child, whole, closed, past, bare, start, unquote, step, follow, run, limits}
 use Rattle.cel_text.specs.Laws.Class.{closer-comma, closer-closer}
 use Rattle.parser.specs.Run.{endOf, NamedAt}
-use Rattle.parser.specs.Kinds.{kindOf, openerKind, opens}
+use Rattle.parser.specs.Kinds.{openerKind, opens}
 use Rattle.parser.specs.Steps.{reads, goesOn}
-use Rattle.parser.proofs.Runs.{decide, end-stop, end-more, end-other, end-later, class-within}
+use Rattle.parser.proofs.Runs.{decide, end-stop, end-more, end-other, class-within}
 
 -- what a byte does in a state
 abbrev pub does : State → (p b : ℕ) → Step

@@ -4,11 +4,11 @@ use Prim.Native.Nat.{ℕ, suc, _+_, _-_, _*_, _≤_, _<_}
 use native.Mathlib.Numerals.{add-one}
 use native.Mathlib.Nat.{add-zero}
 use native.Mathlib.Omega.{arith}
-use mathlib.Core.List.{List, [], _∷_, _++_, append-nil, append-assoc}
+use mathlib.Core.List.{[], _∷_, _++_, append-nil, append-assoc}
 use lib.ListN.{length, set, take, replicate, length-append, length-set, replicate-append-replicate}
 use lib.Seq.{sets, set-comm, take-all, take-suc-set}
 use Rattle.cel_text.specs.Tree.{Kind, Key, Tree, string, container, Trees, ∅, _▸_∶_, nodes, nodesAll, count}
-use Rattle.cel_text.specs.Table.{Words, row, rowsOf, rowsAll, kindNumber, keyFrom, keyTo, stringKind}
+use Rattle.cel_text.specs.Table.{Words, rowsOf, rowsAll, kindNumber, keyFrom, keyTo, stringKind}
 
 pub sets-append : (vs ws l : Words) (i : ℕ) → sets l i (vs ++ ws) ≡ sets (sets l i vs) (i + length vs) ws
 sets-append [] ws l i = rw add-zero

@@ -1,15 +1,15 @@
 -- Where a run of a class of bytes ends. Assumes nothing.
 use mathlib.Core.Path.{_≡_, refl, sym, ap, subst, _∙_}
-use Prim.Native.Nat.{ℕ, zero, suc, _+_, _≤_, _<_}
-use native.Mathlib.Nat.{add-zero}
-use native.Mathlib.Numerals.{add-one}
+use Prim.Native.Nat.{ℕ, zero, suc, _≤_, _<_}
+use native.Mathlib.Nat.{add-zero, zero-add}
 use native.Mathlib.Omega.{arith}
 use mathlib.Core.Bool.{Bool, true, false}
-use mathlib.Core.List.{List, [], _∷_}
+use mathlib.Core.List.{[], _∷_}
 use lib.ListN.{length, drop, getD, drop-of-length-le, length-drop}
 use lib.Seq.{drop-cons, getD-drop}
 use lib.Dec.{T}
-use Rattle.cel_text.specs.Byte.{Text, lead}
+use borrow.Author.Tests.{lt-ltb}
+use Rattle.cel_text.specs.Byte.{Text, lead, ascii}
 use Rattle.parser.specs.Run.{endOf}
 
 -- a test is true or false
@@ -66,3 +66,17 @@ byte-within (b ∷ bs) (suc p) h = let rest : p < length bs = byte-within bs p h
 -- a byte of a class that 0 is not in stands within the text
 pub class-within : (f : ℕ → Bool) → f 0 ≡ false → (x : Text) (p : ℕ) → f (getD x p 0) ≡ true → p < length x
 class-within f z x p t = byte-within x p (λ e. subst T (sym t ∙ ap f e ∙ z) tt)
+
+ascii-below : (b : ℕ) → b < 128 → ascii b ≡ true
+unfolding ascii
+ascii-below b h = lt-ltb b 128 h
+
+-- a text without a byte of 128 or more
+pub all-ascii : (x : Text) → ((k : ℕ) → k < length x → getD x k 0 < 128) → endOf ascii x 0 ≡ length x
+all-ascii x h = zero-add (lead ascii x) ∙ leads x h
+  where
+    leads : (x : Text) → ((k : ℕ) → k < length x → getD x k 0 < 128) → lead ascii x ≡ length x
+    leads [] h = refl
+    leads (b ∷ bs) h =
+        let rest : lead ascii bs ≡ length bs = leads bs (λ k l. h (suc k) (omega arith)) in
+        rw (ascii-below b (h 0 (omega arith))) (omega arith)

@@ -1,26 +1,25 @@
 -- The steps of reading a value, put together: from what the parts find to what the machine does from the value's start. Assumes nothing.
 use mathlib.Core.Path.{_≡_, refl, sym, ap, _∙_}
-use Prim.Native.Nat.{ℕ, zero, suc, _+_, _*_, _≤_, _<_, max}
-use native.Mathlib.Nat.{add-zero}
+use Prim.Native.Nat.{ℕ, suc, _+_, _*_, _≤_, _<_}
 use native.Mathlib.Numerals.{add-one}
 use native.Mathlib.Omega.{arith}
-use mathlib.Core.Bool.{Bool, true, false, cond}
-use mathlib.Core.List.{List, [], _∷_}
+use mathlib.Core.Bool.{Bool, true, false}
+use mathlib.Core.List.{[], _∷_}
 use lib.ListN.{length, drop, getD}
 use lib.Seq.{sets}
 use lib.Dec.{eqb}
-use borrow.Author.Tests.{eq-eqb, ne-eqb, eqb-true, eqb-false}
-use Rattle.cel_text.specs.Byte.{Text, blank, identByte, stringByte, colon, comma, quote}
-use Rattle.cel_text.specs.Tree.{Kind, array, object, function, closer, Key, key, unkeyed, Tree, string, container, Trees, ∅, _▸_∶_, nodes, nodesAll, depth, depthAll, count}
-use Rattle.cel_text.specs.Reading.{Stack, inside, level, opened, Frame, Due, value, entry, State, before, quoted, begun, after, Step, go, refuse, Fault, syntax, tooDeep, tooMany, refused, child, whole, closed, fresh, enter, enterString, past, limits, withKey, withChild}
-use Rattle.cel_text.specs.Table.{Words, rowsOf, rowsAll, kindNumber, keyFrom, keyTo, stringKind}
-use Rattle.cel_text.specs.Laws.Run.{resume, whole-resumes}
+use borrow.Author.Tests.{eq-eqb, ne-eqb}
+use Rattle.cel_text.specs.Byte.{Text, blank, identByte, stringByte}
+use Rattle.cel_text.specs.Tree.{string, container}
+use Rattle.cel_text.specs.Reading.{Stack, inside, level, opened, value, State, before, quoted, begun, Step, syntax, tooDeep, tooMany, refused, fresh, enter, enterString, limits}
+use Rattle.cel_text.specs.Table.{Words, kindNumber}
+use Rattle.cel_text.specs.Laws.Run.{whole-resumes}
 use Rattle.parser.specs.Run.{endOf, NamedAt}
 use Rattle.parser.specs.Kinds.{kindOf, openerKind, opens, openState}
-use Rattle.parser.specs.Steps.{reads, goesOn, Around, RefusedBy, Headed, Entered, Barred, Whole, WholeList, Labelled, Coloned, Colonless}
-use Rattle.parser.proofs.Runs.{decide, end-later, end-within, byte-within}
-use Rattle.parser.proofs.Machine.{named-from, over-opener, over-key, over-string, closing, begun-closes, begun-child, after-closes, after-comma, after-other}
-use Rattle.parser.proofs.Rows.{rows-child, rows-string, rows-container}
+use Rattle.parser.specs.Steps.{reads, goesOn, Around, RefusedBy, Headed, Entered, Barred, Whole, WholeList}
+use Rattle.parser.proofs.Runs.{decide, end-within, byte-within}
+use Rattle.parser.proofs.Machine.{named-from, over-opener, over-string}
+use Rattle.parser.proofs.Rows.{rows-string, rows-container}
 
 -- ---- the limits
 

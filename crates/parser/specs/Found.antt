@@ -1,10 +1,9 @@
 -- The answer of reading a tree: the program's struct in document 01's numbers, and what the steps below `read_tree` answer. Assumes nothing.
 use mathlib.Core.Path.{_≡_}
-use Prim.Native.Nat.{ℕ, suc, _+_, _*_, _≤_, _<_}
+use Prim.Native.Nat.{ℕ, _*_, _≤_, _<_}
 use mathlib.Core.Bool.{cond}
-use lib.ListN.{length}
 use lib.Seq.{sets}
-use lib.Dec.{eqb, leb, ltb}
+use lib.Dec.{eqb, leb}
 use Rattle.cel_text.specs.Byte.{Text, stringByte}
 use Rattle.cel_text.specs.Tree.{Tree, nodes, depth}
 use Rattle.cel_text.specs.Table.{Words, rows, nodeWords}

@@ -3,11 +3,8 @@
 use mathlib.Core.Path.{_≡_}
 use Prim.Native.Nat.{ℕ, suc, _+_, _*_, _≤_, _<_}
 use mathlib.Core.List.{[], _∷_}
-use mathlib.Core.Bool.{Bool, cond}
-use mathlib.Core.Logic.{_⊎_}
 use lib.ListN.{length, drop, getD}
 use lib.Seq.{sets}
-use lib.Dec.{eqb}
 use Rattle.cel_text.specs.Byte.{Text, stringByte, colon}
 use Rattle.cel_text.specs.Tree.{Kind, Key, Tree, Trees, container, nodes, nodesAll, depth, depthAll, count}
 use Rattle.cel_text.specs.Reading.{Stack, level, opened, State, before, value, quoted, begun, fresh, Fault, Outcome, refused, follow, refuse, go, run, limits, maxDepth, maxNodes}

@@ -4,13 +4,9 @@ mod row;
 pub mod scan;
 mod value;
 
-use scan::Class;
 ghost use mathlib.Core.Path.{_≡_};
-ghost use Prim.Native.Nat.{_≤_, _<_, _+_, _*_};
-ghost use lib.ListN.{length, take};
-ghost use mathlib.Core.List.{_++_};
-ghost use lib.ListN.{replicate};
-ghost use Prim.Native.Nat.{_-_};
+ghost use Prim.Native.Nat.{_≤_, _<_, _*_};
+ghost use lib.ListN.{length};
 ghost use Rattle.cel_text.specs.Answer.{treeAnswer, treeTable};
 ghost use Rattle.parser.specs.Found.{told, Finds, Small, answerOf, uses, spareFrom};
 
@@ -22,7 +18,7 @@ pub struct Node(pub usize);
 
 // What a reading step answers: where reading goes on, the number of the next node and the depth of what was read; or the
 // refusal's number and its place.
-pub enum Step {
+pub(crate) enum Step {
     Next(Place, Node, usize),
     Refused(u32, Place),
 }
@@ -37,14 +33,19 @@ pub struct Answer {
     pub depth: u32,
 }
 
+// Limits.
 pub const MAX_TEXT: usize = 8192;
 
 pub const MAX_DEPTH: usize = 32;
 
 pub const MAX_NODES: usize = 256;
 
+// The node table: the words that count, and those of a row.
 pub const NODE_WORDS: usize = 2048;
 
+pub const ROW_WORDS: usize = 8;
+
+// Kinds, as a row's first word names them.
 pub const STRING: u32 = 1;
 
 pub const ARRAY: u32 = 2;
@@ -53,13 +54,26 @@ pub const OBJECT: u32 = 3;
 
 pub const FUNCTION: u32 = 4;
 
+// Refusals of reading a tree.
+pub const TABLE_TOO_SHORT: u32 = 1;
+
+pub const TEXT_TOO_LONG: u32 = 2;
+
+pub const NOT_ASCII: u32 = 3;
+
+pub const SYNTAX: u32 = 4;
+
+pub const TOO_DEEP: u32 = 5;
+
+pub const TOO_MANY: u32 = 6;
+
 // Reads the text. A table of under 2,048 words is refused and left alone; of a longer one the first 2,048 words count.
 pub fn read_tree(text: &[u8], table: &mut [u32]) -> Answer
     ensures answer { λ r. ⌜ told r ≡ treeAnswer (length (now (table .entry))) (now (text .entry)) ⌝ }
     ensures table { λ r. ⌜ now (table .exit) ≡ treeTable (now (text .entry)) (now (table .entry)) ⌝ }
 {
     if table.len() < NODE_WORDS {
-        return answered(1, Place(0), Node(0), 0);
+        return answered(TABLE_TOO_SHORT, Place(0), Node(0), 0);
     }
     fill(text, &mut table[..NODE_WORDS])
 }
@@ -82,11 +96,11 @@ fn find(text: &[u8], table: &mut [u32]) -> Step
     ensures { λ r. ⌜ Finds (now (text .entry)) (now (table .entry)) (now (table .exit)) r ⌝ }
 {
     if MAX_TEXT < text.len() {
-        return Step::Refused(2, Place(MAX_TEXT));
+        return Step::Refused(TEXT_TOO_LONG, Place(MAX_TEXT));
     }
-    let plain = scan::run_of(text, Place(0), Class::Ascii);
+    let plain = scan::ascii_end(text);
     if plain.0 < text.len() {
-        return Step::Refused(3, plain);
+        return Step::Refused(NOT_ASCII, plain);
     }
     value::cel_value(
         text,
@@ -116,7 +130,7 @@ fn answered(refusal: u32, place: Place, nodes: Node, depth: usize) -> Answer
     ensures { λ r. ⌜ told r ≡ uses refusal (place .0) (nodes .0) depth ⌝ }
 {
     match refusal {
-        1 => Answer {
+        TABLE_TOO_SHORT => Answer {
             refusal,
             name: 0,
             kind: 0,
@@ -124,7 +138,7 @@ fn answered(refusal: u32, place: Place, nodes: Node, depth: usize) -> Answer
             nodes: 0,
             depth: 0,
         },
-        2..=6 => Answer {
+        TEXT_TOO_LONG..=TOO_MANY => Answer {
             refusal,
             name: 0,
             kind: 0,
@@ -149,8 +163,8 @@ fn spare(refusal: u32, nodes: usize) -> usize
     ensures { λ r. ⌜ r ≡ spareFrom refusal nodes ⌝ }
 {
     match refusal {
-        1 => NODE_WORDS,
-        2..=6 => 0,
-        _ => 8 * nodes,
+        TABLE_TOO_SHORT => NODE_WORDS,
+        TEXT_TOO_LONG..=TOO_MANY => 0,
+        _ => ROW_WORDS * nodes,
     }
 }

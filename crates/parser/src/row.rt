@@ -6,6 +6,7 @@ ghost use lib.ListN.{length, take, replicate};
 ghost use lib.Seq.{sets};
 use crate::Node;
 use crate::Place;
+use crate::ROW_WORDS;
 
 // The words that are known where a node opens: kind, name or content, key, parent's word.
 pub(crate) fn open_row(
@@ -22,7 +23,7 @@ pub(crate) fn open_row(
     requires { ⌜ (from .0 < 2 ^ 32) × (to .0 < 2 ^ 32) × (keyfrom .0 < 2 ^ 32) × (keyto .0 < 2 ^ 32) ⌝ }
     ensures { λ _. ⌜ now (table .exit) ≡ sets (now (table .entry)) (8 * (node .0)) (kind ∷ from .0 ∷ to .0 ∷ keyfrom .0 ∷ keyto .0 ∷ parent ∷ []) ⌝ }
 {
-    let at = 8 * node.0;
+    let at = ROW_WORDS * node.0;
     table[at] = kind;
     table[at + 1] = from.0 as u32;
     table[at + 2] = to.0 as u32;
@@ -37,7 +38,7 @@ pub(crate) fn close_row(table: &mut [u32], node: Node, children: usize, past: No
     requires { ⌜ (children < 2 ^ 32) × (past .0 < 2 ^ 32) ⌝ }
     ensures { λ _. ⌜ now (table .exit) ≡ sets (now (table .entry)) (8 * (node .0) + 6) (children ∷ past .0 ∷ []) ⌝ }
 {
-    let at = 8 * node.0;
+    let at = ROW_WORDS * node.0;
     table[at + 6] = children as u32;
     table[at + 7] = past.0 as u32;
 }

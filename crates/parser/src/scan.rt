@@ -1,7 +1,8 @@
 // Bytes of the text, one at a time and by runs of a class.
 ghost use mathlib.Core.Path.{_≡_};
-ghost use lib.ListN.{getD};
-ghost use Rattle.cel_text.specs.Byte.{blank, alphanumeric};
+ghost use Prim.Native.Nat.{ℕ, _≤_, _<_, max};
+ghost use lib.ListN.{length, getD};
+ghost use Rattle.cel_text.specs.Byte.{blank, alphanumeric, ascii};
 ghost use Rattle.parser.specs.Run.{classOf, endOf, NamedAt};
 use crate::Place;
 
@@ -40,6 +41,36 @@ pub fn run_of(text: &[u8], at: Place, class: Class) -> Place
         i += 1;
     }
     Place(i)
+}
+
+// The place of the first byte of 128 or more, or the text's length. Nearly every text has none, and the loop that finds the
+// greatest byte has no way out, so that it takes many bytes at a time.
+pub(crate) fn ascii_end(text: &[u8]) -> Place
+    ensures { λ r. ⌜ r .0 ≡ endOf ascii (now (text .entry)) 0 ⌝ }
+{
+    if greatest(text) < 128 {
+        return Place(text.len());
+    }
+    run_of(text, Place(0), Class::Ascii)
+}
+
+// A byte that none of the text's is greater than.
+fn greatest(text: &[u8]) -> u8
+    ensures { λ r. ⌜ ((k : ℕ) → k < length (now (text .entry)) → getD (now (text .entry)) k 0 ≤ r) ⌝ }
+{
+    let mut most = 0;
+    let mut i = 0;
+    while i < text.len() {
+        most = larger(most, text[i]);
+        i += 1;
+    }
+    most
+}
+
+fn larger(a: u8, b: u8) -> u8
+    ensures { λ r. ⌜ r ≡ max a b ⌝ }
+{
+    if a < b { b } else { a }
 }
 
 pub(crate) fn ident(text: &[u8], at: Place) -> Name

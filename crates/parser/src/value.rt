@@ -1,7 +1,6 @@
 // Values: what opens one, strings, and the cycle of values and lists, the depth left falling.
 ghost use mathlib.Core.Path.{_≡_};
-ghost use Prim.Native.Nat.{_≤_, _<_, _+_, _*_, max};
-ghost use mathlib.Core.Bool.{Bool};
+ghost use Prim.Native.Nat.{_≤_, _<_, _+_, max};
 ghost use lib.ListN.{length};
 ghost use Rattle.cel_text.specs.Tree.{closer};
 ghost use Rattle.parser.specs.Kinds.{kindOf, openerKind};
@@ -13,7 +12,10 @@ use crate::Node;
 use crate::OBJECT;
 use crate::Place;
 use crate::STRING;
+use crate::SYNTAX;
 use crate::Step;
+use crate::TOO_DEEP;
+use crate::TOO_MANY;
 use crate::row;
 use crate::scan;
 use crate::scan::Class;
@@ -55,8 +57,8 @@ fn closer_byte(kind: u32) -> u8
     ensures { λ r. ⌜ r ≡ closer (kindOf kind) ⌝ }
 {
     match kind {
-        2 => b']',
-        3 => b'}',
+        ARRAY => b']',
+        OBJECT => b'}',
         _ => b')',
     }
 }
@@ -93,19 +95,19 @@ fn enter(kind: u32, at: Place, node: Node, left: usize) -> Step
     ensures { λ r. ⌜ Opens kind (at .0) (node .0) left r ⌝ }
 {
     if kind == 0 {
-        return Step::Refused(4, at);
+        return Step::Refused(SYNTAX, at);
     }
     if kind == STRING {
         if node.0 == MAX_NODES {
-            return Step::Refused(6, at);
+            return Step::Refused(TOO_MANY, at);
         }
         return Step::Next(Place(at.0 + 1), Node(node.0 + 1), 0);
     }
     if left == 0 {
-        return Step::Refused(5, at);
+        return Step::Refused(TOO_DEEP, at);
     }
     if node.0 == MAX_NODES {
-        return Step::Refused(6, at);
+        return Step::Refused(TOO_MANY, at);
     }
     Step::Next(Place(at.0 + 1), Node(node.0 + 1), 1)
 }
@@ -164,7 +166,7 @@ fn string(
     let to = scan::run_of(text, at, Class::Content);
     let end = scan::run_of(text, to, Class::Blank);
     if scan::peek(text, end) != b'"' {
-        return Step::Refused(4, end);
+        return Step::Refused(SYNTAX, end);
     }
     let past = Node(node.0 + 1);
     row::open_row(table, node, STRING, at, to, keyfrom, keyto, parent);
@@ -193,7 +195,7 @@ fn colon(text: &[u8], at: Place, kind: u32, node: Node) -> Step
 {
     if kind == OBJECT {
         if scan::peek(text, at) != b':' {
-            return Step::Refused(4, at);
+            return Step::Refused(SYNTAX, at);
         }
         return Step::Next(Place(at.0 + 1), node, 0);
     }
@@ -242,7 +244,7 @@ fn list(text: &[u8], table: &mut [u32], at: Place, node: Node, kind: u32, left: 
             return Step::Next(Place(stop.0 + 1), next, depth + 1);
         }
         if b != b',' {
-            return Step::Refused(4, stop);
+            return Step::Refused(SYNTAX, stop);
         }
         from = Place(stop.0 + 1);
     }

@@ -12,7 +12,9 @@ find-requires : tie.Need-find-requires
 find-requires c κs = search needs
 
 answer-of-requires : tie.Need-answer-of-requires
-answer-of-requires c κs = small (c .before .before .before .before .before .before .args .text .now) (c .before .before .before .before .before .before .args .table .now) (c .before .before .find .last .1 .0) (c .before .before .find .result) (c .before .before .find .ensures)
+answer-of-requires c κs =
+    let a = c .before .before .before .before .before .before .args in
+    small (a .text .now) (a .table .now) (c .before .before .find .last .1 .0) (c .before .before .find .result) (c .before .before .find .ensures)
 
 cast-spare : tie.Need-cast-spare
 cast-spare c = search needs

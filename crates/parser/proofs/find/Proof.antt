@@ -8,11 +8,11 @@ use native.Mathlib.Omega.{arith}
 returns : tie.Need-returns
 returns c = record { finds = find-long (c .before .before .before .args .text .now) (c .if1 .taken); low = omega arith; high = omega arith; within = omega arith }
 
-run-of-requires : tie.Need-run-of-requires
-run-of-requires c κs = search needs
+ascii-end-requires : tie.Need-ascii-end-requires
+ascii-end-requires c κs = search needs
 
 returns-2 : tie.Need-returns-2
-returns-2 c = record { finds = find-other (c .before .before .before .before .before .before .args .text .now) (c .before .before .run-of .result .0) (c .before .before .before .if1 .left) (c .before .before .run-of .ensures) (c .if2 .taken); low = omega arith; high = omega arith; within = omega arith }
+returns-2 c = record { finds = find-other (c .before .before .before .before .before .before .args .text .now) (c .before .before .ascii-end .result .0) (c .before .before .before .if1 .left) (c .before .before .ascii-end .ensures) (c .if2 .taken); low = omega arith; high = omega arith; within = omega arith }
 
 cel-value-requires : tie.Need-cel-value-requires
 cel-value-requires c κs = search needs
@@ -21,8 +21,11 @@ same-length : tie.Need-same-length
 same-length c = search needs
 
 returns-3 : tie.Need-returns-3
-returns-3 c = find-value (c .before .before .before .before .before .before .before .before .before .before .args .text .now) (c .before .before .before .before .before .before .before .before .before .before .args .table .now) (c .before .before .cel-value .last .1 .0) (c .before .before .before .before .before .before .run-of .result .0) (c .before .before .before .before .before .before .before .if1 .left) (c .before .before .before .before .before .before .run-of .ensures) (c .before .before .before .before .if2 .left) (c .before .before .cel-value .result) (c .before .before .cel-value .ensures)
+returns-3 c =
+    let a = c .before .before .before .before .before .before .before .before .before .before .args in
+    find-value (a .text .now) (a .table .now) (c .before .before .cel-value .last .1 .0) (c .before .before .before .before .before .before .ascii-end .result .0) (c .before .before .before .before .before .before .before .if1 .left) (c .before .before .before .before .before .before .ascii-end .ensures) (c .before .before .before .before .if2 .left) (c .before .before .cel-value .result) (c .before .before .cel-value .ensures)
 
 pub find-spec : {M : Type 1} → statement M
 find-spec =
-    tie.close (tie.spec returns run-of-requires returns-2 cel-value-requires same-length returns-3)
+    tie.close
+    (tie.spec returns ascii-end-requires returns-2 cel-value-requires same-length returns-3)

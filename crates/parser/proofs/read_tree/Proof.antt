@@ -13,7 +13,9 @@ answered-requires : tie.Need-answered-requires
 answered-requires c κs = search needs
 
 returns : tie.Need-returns
-returns c = (c .answered .ensures ∙ answer-short (c .before .before .before .before .args .text .now) (length (c .before .before .before .before .args .table .now)) (c .before .if1 .taken), table-short (c .before .before .before .before .args .text .now) (c .before .before .before .before .args .table .now) (c .before .if1 .taken))
+returns c =
+    let a = c .before .before .before .before .args in
+    (c .answered .ensures ∙ answer-short (a .text .now) (length (a .table .now)) (c .before .if1 .taken), table-short (a .text .now) (a .table .now) (c .before .if1 .taken))
 
 slice-relend-prefix-fill : tie.Need-slice-relend-prefix-fill
 slice-relend-prefix-fill c = search needs
@@ -28,7 +30,9 @@ same-length : tie.Need-same-length
 same-length c = search needs
 
 returns-2 : tie.Need-returns-2
-returns-2 c = (c .before .before .fill .ensures .0 ∙ answer-front (c .before .before .before .before .before .before .before .args .text .now) (length (c .before .before .before .before .before .before .before .args .table .now)) (c .before .before .before .before .if1 .left), ap (λ (l : Words). l ++ drop 2048 (c .before .before .before .before .before .before .before .args .table .now)) (c .before .before .fill .ensures .1) ∙ table-front (c .before .before .before .before .before .before .before .args .text .now) (c .before .before .before .before .before .before .before .args .table .now) (c .before .before .before .before .if1 .left))
+returns-2 c =
+    let a = c .before .before .before .before .before .before .before .args in
+    (c .before .before .fill .ensures .0 ∙ answer-front (a .text .now) (length (a .table .now)) (c .before .before .before .before .if1 .left), ap (λ (l : Words). l ++ drop 2048 (a .table .now)) (c .before .before .fill .ensures .1) ∙ table-front (a .text .now) (a .table .now) (c .before .before .before .before .if1 .left))
 
 pub read-tree-spec : {M : Type 1} → statement M
 read-tree-spec =

@@ -15,8 +15,9 @@ returns c = rw (c .match .keys1)
 
 returns-2 : tie.Need-returns-2
 returns-2 c =
-    let h : c .before .before .before .args .refusal ≡ 1 → ⊥ = c .before .before .match .rest .1 in
-    rw (ne-eqb (c .before .before .before .args .refusal) 1 h, le-leb 2 (c .before .before .before .args .refusal) (omega arith), le-leb (c .before .before .before .args .refusal) 6 (omega arith))
+    let a = c .before .before .before .args in
+    let h : a .refusal ≡ 1 → ⊥ = c .before .before .match .rest .1 in
+    rw (ne-eqb (a .refusal) 1 h, le-leb 2 (a .refusal) (omega arith), le-leb (a .refusal) 6 (omega arith))
 
 returns-3 : tie.Need-returns-3
 returns-3 c =

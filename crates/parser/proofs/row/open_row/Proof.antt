@@ -76,7 +76,9 @@ same-length : tie.Need-same-length
 same-length c = simp length-set
 
 returns : tie.Need-returns
-returns c = put-six (c .before .before .before .before .before .args .table .now) _ (c .before .before .before .before .before .args .kind) (c .before .before .before .before .before .args .from .0) (c .before .before .before .before .before .args .to .0) (c .before .before .before .before .before .args .keyfrom .0) (c .before .before .before .before .before .args .keyto .0) (c .before .before .before .before .before .args .parent)
+returns c =
+    let a = c .before .before .before .before .before .args in
+    put-six (a .table .now) _ (a .kind) (a .from .0) (a .to .0) (a .keyfrom .0) (a .keyto .0) (a .parent)
 
 pub open-row-spec : {M : Type 1} → statement M
 open-row-spec =

@@ -1,5 +1,5 @@
 -- `scan::has` meets its contract: each arm is its class's definition, an alphanumeric byte tested first. Assumes nothing.
-use mathlib.Core.Path.{_≡_, refl, sym, _∙_}
+use mathlib.Core.Path.{sym, _∙_}
 use borrow.Author.Needs.{needs}
 use Rattle.cel_text.specs.Byte.{ascii}
 use Rattle.parser.proofs.Classes.{ident-alphanumeric, ident-other, content-alphanumeric, content-other}

@@ -18,22 +18,26 @@ returns-2 c =
 returns-3 : tie.Need-returns-3
 unfolding alphanumeric
 returns-3 c =
-    rw (lt-leb (c .before .before .before .args .b) 57 (omega arith), le-leb 48 (c .before .before .before .args .b) (omega arith), lt-leb 65 (c .before .before .before .args .b) (omega arith), lt-leb 97 (c .before .before .before .args .b) (omega arith))
+    let a = c .before .before .before .args in
+    rw (lt-leb (a .b) 57 (omega arith), le-leb 48 (a .b) (omega arith), lt-leb 65 (a .b) (omega arith), lt-leb 97 (a .b) (omega arith))
 
 returns-4 : tie.Need-returns-4
 unfolding alphanumeric
 returns-4 c =
-    rw (lt-leb (c .before .before .before .before .args .b) 57 (omega arith), le-leb 48 (c .before .before .before .before .args .b) (omega arith), le-leb 65 (c .before .before .before .before .args .b) (omega arith), le-leb (c .before .before .before .before .args .b) 90 (omega arith))
+    let a = c .before .before .before .before .args in
+    rw (lt-leb (a .b) 57 (omega arith), le-leb 48 (a .b) (omega arith), le-leb 65 (a .b) (omega arith), le-leb (a .b) 90 (omega arith))
 
 returns-5 : tie.Need-returns-5
 unfolding alphanumeric
 returns-5 c =
-    rw (lt-leb (c .before .before .before .before .before .args .b) 57 (omega arith), le-leb 48 (c .before .before .before .before .before .args .b) (omega arith), le-leb 65 (c .before .before .before .before .before .args .b) (omega arith), lt-leb (c .before .before .before .before .before .args .b) 90 (omega arith), lt-leb 97 (c .before .before .before .before .before .args .b) (omega arith))
+    let a = c .before .before .before .before .before .args in
+    rw (lt-leb (a .b) 57 (omega arith), le-leb 48 (a .b) (omega arith), le-leb 65 (a .b) (omega arith), lt-leb (a .b) 90 (omega arith), lt-leb 97 (a .b) (omega arith))
 
 returns-6 : tie.Need-returns-6
 unfolding alphanumeric
 returns-6 c =
-    rw (lt-leb (c .before .before .before .before .before .args .b) 57 (omega arith), le-leb 48 (c .before .before .before .before .before .args .b) (omega arith), le-leb 65 (c .before .before .before .before .before .args .b) (omega arith), lt-leb (c .before .before .before .before .before .args .b) 90 (omega arith), le-leb 97 (c .before .before .before .before .before .args .b) (omega arith))
+    let a = c .before .before .before .before .before .args in
+    rw (lt-leb (a .b) 57 (omega arith), le-leb 48 (a .b) (omega arith), le-leb 65 (a .b) (omega arith), lt-leb (a .b) 90 (omega arith), le-leb 97 (a .b) (omega arith))
 
 pub is-alphanumeric-spec : {M : Type 1} → statement M
 is-alphanumeric-spec =

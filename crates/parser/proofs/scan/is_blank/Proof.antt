@@ -1,5 +1,4 @@
 -- `scan::is_blank` meets its contract: the tests are those of the definition. Assumes nothing.
-use mathlib.Core.Path.{refl}
 use borrow.Author.Tests.{ne-eqb}
 use Rattle.cel_text.specs.Byte.{blank}
 use Rattle.parser.proofs.scan.is_blank.Statement.{statement}
@@ -23,7 +22,8 @@ returns-3 c =
 returns-4 : tie.Need-returns-4
 unfolding blank
 returns-4 c =
-    rw (ne-eqb (c .before .before .before .args .b) 32 (c .before .before .if1 .left), ne-eqb (c .before .before .before .args .b) 9 (c .before .if2 .left), ne-eqb (c .before .before .before .args .b) 10 (c .if3 .left))
+    let a = c .before .before .before .args in
+    rw (ne-eqb (a .b) 32 (c .before .before .if1 .left), ne-eqb (a .b) 9 (c .before .if2 .left), ne-eqb (a .b) 10 (c .if3 .left))
 
 pub is-blank-spec : {M : Type 1} → statement M
 is-blank-spec = tie.close (tie.spec returns returns-2 returns-3 returns-4)

@@ -1,22 +1,18 @@
 -- `cel_value` and `list` meet their contracts: the opener, the key, the comma and the closer that the code finds are what the machine does there,
 -- a child's reading goes into its list's, and the depth left falls from a value to its list. Assumes nothing.
-use mathlib.Core.Path.{_≡_, refl, sym, _∙_}
-use Prim.Native.Nat.{ℕ, suc, _+_, _-_, _*_, _≤_, _<_, max}
+use mathlib.Core.Path.{_≡_, sym, _∙_}
+use Prim.Native.Nat.{ℕ, suc, _+_, _-_, _*_, _≤_, _<_}
 use native.Mathlib.Numerals.{add-one}
-use lib.ListN.{length, getD}
-use lib.Seq.{sets, length-sets}
+use lib.ListN.{length}
 use borrow.Author.Needs.{needs}
-use Rattle.cel_text.specs.Byte.{Text, blank, comma}
-use Rattle.cel_text.specs.Tree.{Kind, array, object, function, closer}
+use Rattle.cel_text.specs.Byte.{blank}
 use Rattle.cel_text.specs.Reading.{before, value}
-use Rattle.parser.specs.Run.{endOf}
 use Rattle.parser.specs.Kinds.{kindOf}
 use Rattle.parser.specs.Steps.{Entered, Whole, Listed}
 use Rattle.parser.specs.declared.Step.{Step}
 use Rattle.parser.specs.declared.Step.the-variants.{Next, Refused}
 use Rattle.cel_text.specs.Table.{Words}
-use Rattle.parser.proofs.Runs.{end-later, end-within, byte-within}
-use Rattle.parser.proofs.Values.{Bounds}
+use Rattle.parser.proofs.Runs.{end-later, end-within}
 use Rattle.parser.proofs.Lists.{sofar-length, Labelling, Due-child, Read-child, first-child, empty-list, child-read, comma-read, list-closed, neither-refused}
 use Rattle.parser.proofs.Handed.{barred-up, entered-by, string-up, list-up, list-from, end-again, label-bounds, colon-up, labelled-by, child-up, whole-by}
 use borrow.Fn.Kinds.{In}
@@ -67,8 +63,11 @@ cel-value-claims t = (opening-reads.Asked, opening-reads.Learnt, enter-reads.Ask
 abbrev list-claims : ℕ → list-lts.Claims
 list-claims t = (closer-byte-reads.Asked, closer-byte-reads.Learnt, run-of-reads.Asked, run-of-reads.Learnt, peek-reads.Asked, peek-reads.Learnt, close-row-reads.Asked, close-row-reads.Learnt, label-reads.Asked, label-reads.Learnt, colon-reads.Asked, colon-reads.Learnt, cel-value-below t, cel-value.Post, deeper-reads.Asked, deeper-reads.Learnt)
 
+-- what `enter` found, where it let the opener pass
 cel-value-entered : (t : ℕ) (c : cel-value-lts.After-step (cel-value-claims t) (cel-value-at t) cel-value.Post) → Entered (c .before .before .before .opening .result .kind) (c .before .before .before .opening .result .at .0) (c .before .before .before .before .before .before .args .node .0) (c .before .before .before .before .before .before .args .left) (c .step .given .0 .0 .0)
-cel-value-entered t c = entered-by (c .before .before .before .opening .ensures) (c .before .before .before .before .before .before .args .node .0) (c .before .before .before .before .before .before .args .left) (c .step .given .1) (c .before .before .enter .ensures)
+cel-value-entered t c =
+    let a = c .before .before .before .before .before .before .args in
+    entered-by (c .before .before .before .opening .ensures) (a .node .0) (a .left) (c .step .given .1) (c .before .before .enter .ensures)
 
 abbrev list-Inv-loop : list-lts.InvT-loop
 list-Inv-loop text table₀ node kind left close from₀ next₀ parent count₀ depth₀ table from next count depth = Due-child text table₀ table (from₀ .0) (node .0) (kindOf kind) left (from .0) (next .0) count depth
@@ -76,22 +75,32 @@ list-Inv-loop text table₀ node kind left close from₀ next₀ parent count₀
 abbrev list-μ-loop : list-lts.MeasureT-loop
 list-μ-loop text table₀ node kind left close from₀ next₀ parent count₀ depth₀ table from next count depth = length text - from .0
 
+-- from the list as read from its first byte that is no blank to the list as read from its opener
 list-whole : (t : ℕ) (c : list-lts.At-loop (list-claims t) (list-at t) list.Post list-Inv-loop list-μ-loop) (w : Words) (s : Step) → Listed (c .before .before .before .before .before .before .before .before .before .args .text .now) (c .before .before .before .before .before .before .before .before .before .args .table .now) w (c .before .before .before .before .before .run-of .result .0) (c .before .before .before .before .before .before .before .before .before .args .node .0) (c .before .before .before .before .before .before .before .before .before .args .kind) (c .before .before .before .before .before .before .before .before .before .args .left) s
     → Listed (c .before .before .before .before .before .before .before .before .before .args .text .now) (c .before .before .before .before .before .before .before .before .before .args .table .now) w (c .before .before .before .before .before .before .before .before .before .args .at .0) (c .before .before .before .before .before .before .before .before .before .args .node .0) (c .before .before .before .before .before .before .before .before .before .args .kind) (c .before .before .before .before .before .before .before .before .before .args .left) s
-list-whole t c w s v = list-from (c .before .before .before .before .before .before .before .before .before .args .text .now) (c .before .before .before .before .before .before .before .before .before .args .table .now) w (c .before .before .before .before .before .before .before .before .before .args .at .0) (c .before .before .before .before .before .run-of .result .0) (c .before .before .before .before .before .before .before .before .before .args .node .0) (c .before .before .before .before .before .before .before .before .before .args .kind) (c .before .before .before .before .before .before .before .before .before .args .left) (c .before .before .before .before .before .run-of .ensures) (rw (c .before .before .before .before .before .run-of .ensures) (end-later blank (c .before .before .before .before .before .before .before .before .before .args .text .now) (c .before .before .before .before .before .before .before .before .before .args .at .0))) s v
+list-whole t c w s v =
+    let a = c .before .before .before .before .before .before .before .before .before .args in
+    list-from (a .text .now) (a .table .now) w (a .at .0) (c .before .before .before .before .before .run-of .result .0) (a .node .0) (a .kind) (a .left) (c .before .before .before .before .before .run-of .ensures) (rw (c .before .before .before .before .before .run-of .ensures) (end-later blank (a .text .now) (a .at .0))) s v
 
+-- the key of the child that is due, where its colon was found
 list-labelled : (t : ℕ) (c : list-lts.After-colon2 (list-claims t) (list-at t) list.Post list-Inv-loop list-μ-loop) → Labelling (c .before .before .before .before .before .before .before .before .before .before .before .before .before .args .text .now) (kindOf (c .before .before .before .before .before .before .before .before .before .before .before .before .before .args .kind)) (c .before .before .before .before .loop .from .0) (c .before .before .before .label .result .from .0) (c .before .before .before .label .result .to .0) (c .colon2 .given .0 .0 .0)
 list-labelled t c = labelled-by (c .before .before .before .before .before .before .before .before .before .before .before .before .before .args .kind) (c .before .before .before .before .loop .inv) (c .before .before .before .label .ensures) (c .colon2 .given .1) (c .before .before .colon .ensures)
 
+-- the child, where it was read
 list-child : (t : ℕ) (c : list-lts.After-child (list-claims t) (list-at t) list.Post list-Inv-loop list-μ-loop) → Whole (λ K. before (value K)) (c .before .before .before .before .before .before .before .before .before .before .before .before .before .before .before .before .before .before .before .before .args .text .now) (c .before .before .before .before .before .before .before .before .before .before .before .loop .table) (c .before .before .before .before .cel-value .last .1 .0) (c .before .before .before .before .before .before .before .colon2 .given .0 .0 .0) (c .before .before .before .before .before .before .before .before .before .before .before .loop .next .0) (c .before .before .before .before .before .before .before .before .before .before .before .before .before .before .before .before .before .before .before .before .args .left) (c .before .before .before .before .before .before .before .before .before .before .label .result .from .0) (c .before .before .before .before .before .before .before .before .before .before .label .result .to .0) (c .before .before .before .before .before .before .before .before .before .before .before .before .before .before .before .before .before .before .before .before .args .node .0 + 1) (c .child .given .0 .0 .0) (c .child .given .0 .1 .0 .0) (c .child .given .0 .1 .1 .0)
-list-child t c = whole-by (c .before .before .before .before .before .before .before .before .before .before .before .before .before .before .before .before .before .before .before .before .args .kind) (c .before .before .before .before .before .before .before .before .before .before .before .loop .inv) (list-labelled t (c .before .before .before .before .before .before .before)) (c .before .before .before .before .cel-value .last .1 .0) (c .before .before .before .before .before .before .before .before .before .before .before .before .before .before .before .before .before .before .before .before .args .node .0 + 1) (c .child .given .1) (c .before .before .before .before .cel-value .ensures)
+list-child t c =
+    let a = c .before .before .before .before .before .before .before .before .before .before .before .before .before .before .before .before .before .before .before .before .args in
+    whole-by (a .kind) (c .before .before .before .before .before .before .before .before .before .before .before .loop .inv) (list-labelled t (c .before .before .before .before .before .before .before)) (c .before .before .before .before .cel-value .last .1 .0) (a .node .0 + 1) (c .child .given .1) (c .before .before .before .before .cel-value .ensures)
 
+-- the list with that child
 list-read : (t : ℕ) (c : list-lts.After-deeper (list-claims t) (list-at t) list.Post list-Inv-loop list-μ-loop) → Read-child (c .before .before .before .before .before .before .before .before .before .before .before .before .before .before .before .before .before .before .before .before .before .before .args .text .now) (c .before .before .before .before .before .before .before .before .before .before .before .before .before .before .before .before .before .before .before .before .before .before .args .table .now) (c .before .before .before .before .before .before .cel-value .last .1 .0) (c .before .before .before .before .before .before .before .before .before .before .before .before .before .before .before .before .before .before .run-of .result .0) (c .before .before .before .before .before .before .before .before .before .before .before .before .before .before .before .before .before .before .before .before .before .before .args .node .0) (kindOf (c .before .before .before .before .before .before .before .before .before .before .before .before .before .before .before .before .before .before .before .before .before .before .args .kind)) (c .before .before .before .before .before .before .before .before .before .before .before .before .before .before .before .before .before .before .before .before .before .before .args .left) (c .before .before .child .given .0 .0 .0) (c .before .before .child .given .0 .1 .0 .0) (c .before .before .before .before .before .before .before .before .before .before .before .before .before .loop .count + 1) (c .deeper .result)
 list-read t c = child-read (c .before .before .before .before .before .before .before .before .before .before .before .before .before .loop .inv) (list-labelled t (c .before .before .before .before .before .before .before .before .before)) (add-one (c .before .before .before .before .before .before .before .before .before .before .before .before .before .before .before .before .before .before .before .before .before .before .args .node .0)) (c .deeper .ensures) (list-child t (c .before .before))
 
+-- the blanks after it end within the text
 list-stop : (t : ℕ) (c : list-lts.After-run-of2 (list-claims t) (list-at t) list.Post list-Inv-loop list-μ-loop) → c .run-of2 .result .0 ≤ length (c .before .before .before .before .before .before .before .before .before .before .before .before .before .before .before .before .before .before .before .before .before .before .before .args .text .now)
 list-stop t c = rw (c .run-of2 .ensures) (end-within blank (c .before .before .before .before .before .before .before .before .before .before .before .before .before .before .before .before .before .before .before .before .before .before .before .args .text .now) (c .before .before .before .child .given .0 .0 .0) (list-child t (c .before .before .before) .within))
 
+-- the list after its comma: the invariant again
 list-comma : (t : ℕ) (c : list-lts.Else3 (list-claims t) (list-at t) list.Post list-Inv-loop list-μ-loop) → Due-child (c .before .before .before .before .before .before .before .before .before .before .before .before .before .before .before .before .before .before .before .before .before .before .before .before .before .before .args .text .now) (c .before .before .before .before .before .before .before .before .before .before .before .before .before .before .before .before .before .before .before .before .before .before .before .before .before .before .args .table .now) (c .before .before .before .before .before .before .before .before .before .before .cel-value .last .1 .0) (c .before .before .before .before .before .before .before .before .before .before .before .before .before .before .before .before .before .before .before .before .before .before .run-of .result .0) (c .before .before .before .before .before .before .before .before .before .before .before .before .before .before .before .before .before .before .before .before .before .before .before .before .before .before .args .node .0) (kindOf (c .before .before .before .before .before .before .before .before .before .before .before .before .before .before .before .before .before .before .before .before .before .before .before .before .before .before .args .kind)) (c .before .before .before .before .before .before .before .before .before .before .before .before .before .before .before .before .before .before .before .before .before .before .before .before .before .before .args .left) (c .before .before .before .run-of2 .result .0 + 1) (c .before .before .before .before .before .before .child .given .0 .1 .0 .0) (c .before .before .before .before .before .before .before .before .before .before .before .before .before .before .before .before .before .loop .count + 1) (c .before .before .before .before .deeper .result)
 list-comma t c = comma-read (list-read t (c .before .before .before .before)) (c .before .before .before .run-of2 .result .0) (c .before .before .before .run-of2 .ensures) (sym (c .before .before .peek2 .ensures) ∙ c .if3 .left)
 
@@ -108,7 +117,9 @@ cel-value-enum-told : (t : ℕ) → cel-value-lts.Need-enum-told (cel-value-clai
 cel-value-enum-told t c = search needs
 
 cel-value-returns : (t : ℕ) → cel-value-lts.Need-returns (cel-value-claims t) (cel-value-at t) cel-value.Post
-cel-value-returns t c = barred-up (c .before .before .before .opening .ensures) (c .before .before .before .before .before .before .args .node .0) (c .before .before .before .before .before .before .args .left) (c .before .before .before .before .before .before .args .table .now) _ (c .before .before .before .before .before .before .args .keyfrom .0) (c .before .before .before .before .before .before .args .keyto .0) (c .before .before .before .before .before .before .args .parent) (c .enum-told .given .1) (c .before .before .enter .ensures)
+cel-value-returns t c =
+    let a = c .before .before .before .before .before .before .args in
+    barred-up (c .before .before .before .opening .ensures) (a .node .0) (a .left) (a .table .now) _ (a .keyfrom .0) (a .keyto .0) (a .parent) (c .enum-told .given .1) (c .before .before .enter .ensures)
 
 cel-value-string-requires : (t : ℕ) → cel-value-lts.Need-string-requires (cel-value-claims t) (cel-value-at t) cel-value.Post
 cel-value-string-requires t c κs =
@@ -120,7 +131,9 @@ cel-value-same-length : (t : ℕ) → cel-value-lts.Need-same-length (cel-value-
 cel-value-same-length t c = c .before .before .string .kept .1 .0
 
 cel-value-returns-2 : (t : ℕ) → cel-value-lts.Need-returns-2 (cel-value-claims t) (cel-value-at t) cel-value.Post
-cel-value-returns-2 t c = string-up (c .before .before .before .before .before .before .before .before .before .opening .ensures) (c .before .before .before .before .before .before .before .before .before .before .before .before .args .node .0) (c .before .before .before .before .before .before .before .before .before .before .before .before .args .left) (cel-value-entered t (c .before .before .before .before .before .before)) (c .before .before .before .before .before .before .before .before .before .before .before .before .args .keyfrom .0) (c .before .before .before .before .before .before .before .before .before .before .before .before .args .keyto .0) (c .before .before .before .before .before .before .before .before .before .before .before .before .args .parent) (c .before .before .before .before .before .before .before .before .before .before .before .before .args .table .now) (c .before .before .string .last .1 .0) (c .before .before .before .before .if1 .taken) (c .before .before .string .result) (c .before .before .string .ensures)
+cel-value-returns-2 t c =
+    let a = c .before .before .before .before .before .before .before .before .before .before .before .before .args in
+    string-up (c .before .before .before .before .before .before .before .before .before .opening .ensures) (a .node .0) (a .left) (cel-value-entered t (c .before .before .before .before .before .before)) (a .keyfrom .0) (a .keyto .0) (a .parent) (a .table .now) (c .before .before .string .last .1 .0) (c .before .before .before .before .if1 .taken) (c .before .before .string .result) (c .before .before .string .ensures)
 
 cel-value-open-row-requires : (t : ℕ) → cel-value-lts.Need-open-row-requires (cel-value-claims t) (cel-value-at t) cel-value.Post
 cel-value-open-row-requires t c κs =
@@ -144,9 +157,10 @@ cel-value-same-length-2 t c = c .before .before .list .kept .1 .0 ∙ c .before 
 
 cel-value-returns-3 : (t : ℕ) → cel-value-lts.Need-returns-3 (cel-value-claims t) (cel-value-at t) cel-value.Post
 cel-value-returns-3 t c =
+    let a = c .before .before .before .before .before .before .before .before .before .before .before .before .before .before .before .before .args in
     let e = cel-value-entered t (c .before .before .before .before .before .before .before .before .before .before) in
-    let h : c .before .before .before .before .before .before .before .before .before .before .before .before .before .before .before .before .args .left ≡ suc (c .before .before .before .before .before .before .before .before .before .before .before .before .before .before .before .before .args .left - 1) = omega (arith, e .deeper (c .before .before .before .before .before .before .before .before .if1 .left)) in
-    list-up (c .before .before .before .before .before .before .before .before .before .before .before .before .before .opening .ensures) (c .before .before .before .before .before .before .before .before .before .before .before .before .before .before .before .before .args .node .0) (c .before .before .before .before .before .before .before .before .before .before .before .before .before .before .before .before .args .left) e (c .before .before .before .before .before .before .before .before .before .before .before .before .before .before .before .before .args .keyfrom .0) (c .before .before .before .before .before .before .before .before .before .before .before .before .before .before .before .before .args .keyto .0) (c .before .before .before .before .before .before .before .before .before .before .before .before .before .before .before .before .args .parent) (c .before .before .before .before .before .before .before .before .before .before .before .before .before .before .before .before .args .table .now) (c .before .before .before .before .before .before .open-row .last .0) (c .before .before .list .last .1 .0) (c .before .before .before .before .before .before .before .before .before .before .before .before .before .before .before .before .args .left - 1) (c .before .before .before .before .before .before .before .before .if1 .left) h (c .before .before .before .before .before .before .open-row .ensures) (c .before .before .list .result) (c .before .before .list .ensures)
+    let h : a .left ≡ suc (a .left - 1) = omega (arith, e .deeper (c .before .before .before .before .before .before .before .before .if1 .left)) in
+    list-up (c .before .before .before .before .before .before .before .before .before .before .before .before .before .opening .ensures) (a .node .0) (a .left) e (a .keyfrom .0) (a .keyto .0) (a .parent) (a .table .now) (c .before .before .before .before .before .before .open-row .last .0) (c .before .before .list .last .1 .0) (a .left - 1) (c .before .before .before .before .before .before .before .before .if1 .left) h (c .before .before .before .before .before .before .open-row .ensures) (c .before .before .list .result) (c .before .before .list .ensures)
 
 list-closer-byte-requires : (t : ℕ) → list-lts.Need-closer-byte-requires (list-claims t) (list-at t) list.Post list-Inv-loop list-μ-loop
 list-closer-byte-requires t c κs = search needs
@@ -165,7 +179,8 @@ list-close-row-requires t c κs = omega (arith, c .before .before .before .befor
 
 list-add-t29 : (t : ℕ) → list-lts.Need-add-t29 (list-claims t) (list-at t) list.Post list-Inv-loop list-μ-loop
 list-add-t29 t c =
-    let h : c .before .before .before .before .before .before .before .before .run-of .result .0 ≤ length (c .before .before .before .before .before .before .before .before .before .before .before .before .args .text .now) = rw (c .before .before .before .before .before .before .before .before .run-of .ensures) (end-within blank (c .before .before .before .before .before .before .before .before .before .before .before .before .args .text .now) (c .before .before .before .before .before .before .before .before .before .before .before .before .args .at .0) (c .before .before .before .before .before .before .before .before .before .before .before .before .pre .1 .inside)) in
+    let a = c .before .before .before .before .before .before .before .before .before .before .before .before .args in
+    let h : c .before .before .before .before .before .before .before .before .run-of .result .0 ≤ length (a .text .now) = rw (c .before .before .before .before .before .before .before .before .run-of .ensures) (end-within blank (a .text .now) (a .at .0) (c .before .before .before .before .before .before .before .before .before .before .before .before .pre .1 .inside)) in
     omega (arith, c .before .before .before .before .before .before .before .before .before .before .before .before .pre .1)
 
 list-same-length : (t : ℕ) → list-lts.Need-same-length (list-claims t) (list-at t) list.Post list-Inv-loop list-μ-loop
@@ -182,14 +197,17 @@ list-cast-parent t c = omega (arith, c .before .before .before .before .before .
 
 list-loop-holds : (t : ℕ) → list-lts.Need-loop-holds (list-claims t) (list-at t) list.Post list-Inv-loop list-μ-loop
 list-loop-holds t c =
-    let h : c .before .before .before .before .run-of .result .0 ≤ length (c .before .before .before .before .before .before .before .before .args .text .now) = rw (c .before .before .before .before .run-of .ensures) (end-within blank (c .before .before .before .before .before .before .before .before .args .text .now) (c .before .before .before .before .before .before .before .before .args .at .0) (c .before .before .before .before .before .before .before .before .pre .1 .inside)) in
-    first-child (end-again (c .before .before .before .before .before .before .before .before .args .text .now) (c .before .before .before .before .before .before .before .before .args .at .0) (c .before .before .before .before .run-of .result .0) (c .before .before .before .before .run-of .ensures)) h (c .before .before .before .before .before .before .before .before .pre .1 .few) (λ e. c .before .if1 .left (c .before .before .peek .ensures ∙ e ∙ sym (c .before .before .before .before .before .closer-byte .ensures)))
+    let a = c .before .before .before .before .before .before .before .before .args in
+    let h : c .before .before .before .before .run-of .result .0 ≤ length (a .text .now) = rw (c .before .before .before .before .run-of .ensures) (end-within blank (a .text .now) (a .at .0) (c .before .before .before .before .before .before .before .before .pre .1 .inside)) in
+    first-child (end-again (a .text .now) (a .at .0) (c .before .before .before .before .run-of .result .0) (c .before .before .before .before .run-of .ensures)) h (c .before .before .before .before .before .before .before .before .pre .1 .few) (λ e. c .before .if1 .left (c .before .before .peek .ensures ∙ e ∙ sym (c .before .before .before .before .before .closer-byte .ensures)))
 
 list-label-requires : (t : ℕ) → list-lts.Need-label-requires (list-claims t) (list-at t) list.Post list-Inv-loop list-μ-loop
 list-label-requires t c κs = search needs
 
 list-colon-requires : (t : ℕ) → list-lts.Need-colon-requires (list-claims t) (list-at t) list.Post list-Inv-loop list-μ-loop
-list-colon-requires t c κs = label-bounds (c .before .before .before .before .before .before .before .before .before .before .args .text .now) (c .before .loop .from .0) (c .before .before .before .before .before .before .before .before .before .before .args .kind) (c .label .result .from .0) (c .label .result .to .0) (c .label .result .end .0) (c .label .ensures) (c .before .loop .inv .within) .within
+list-colon-requires t c κs =
+    let a = c .before .before .before .before .before .before .before .before .before .before .args in
+    label-bounds (a .text .now) (c .before .loop .from .0) (a .kind) (c .label .result .from .0) (c .label .result .to .0) (c .label .result .end .0) (c .label .ensures) (c .before .loop .inv .within) .within
 
 list-enum-known-colon : (t : ℕ) → list-lts.Need-enum-known-colon (list-claims t) (list-at t) list.Post list-Inv-loop list-μ-loop
 list-enum-known-colon t c = search needs
@@ -201,7 +219,9 @@ list-same-length-2 : (t : ℕ) → list-lts.Need-same-length-2 (list-claims t) (
 list-same-length-2 t c = sofar-length (c .before .before .before .before .loop .inv)
 
 list-returns-2 : (t : ℕ) → list-lts.Need-returns-2 (list-claims t) (list-at t) list.Post list-Inv-loop list-μ-loop
-list-returns-2 t c = list-whole t (c .before .before .before .before) (c .before .before .before .before .loop .table) (c .before .before .colon .result) (colon-up (c .before .before .before .before .before .before .before .before .before .before .before .before .before .args .kind) (c .before .before .before .before .loop .inv) (c .before .before .before .label .ensures) (c .before .before .before .before .loop .table) (c .enum-told .given .1) (c .before .before .colon .ensures))
+list-returns-2 t c =
+    let l = c .before .before .before .before .loop in
+    list-whole t (c .before .before .before .before) (l .table) (c .before .before .colon .result) (colon-up (c .before .before .before .before .before .before .before .before .before .before .before .before .before .args .kind) (l .inv) (c .before .before .before .label .ensures) (l .table) (c .enum-told .given .1) (c .before .before .colon .ensures))
 
 list-cel-value-requires : (t : ℕ) → list-lts.Need-cel-value-requires (list-claims t) (list-at t) list.Post list-Inv-loop list-μ-loop
 list-cel-value-requires t c κs =
@@ -218,10 +238,14 @@ list-same-length-3 : (t : ℕ) → list-lts.Need-same-length-3 (list-claims t) (
 list-same-length-3 t c = c .before .before .before .before .cel-value .kept .1 .0 ∙ sofar-length (c .before .before .before .before .before .before .before .before .before .before .before .loop .inv)
 
 list-returns-3 : (t : ℕ) → list-lts.Need-returns-3 (list-claims t) (list-at t) list.Post list-Inv-loop list-μ-loop
-list-returns-3 t c = list-whole t (c .before .before .before .before .before .before .before .before .before .before .before) (c .before .before .before .before .cel-value .last .1 .0) (c .before .before .before .before .cel-value .result) (child-up (c .before .before .before .before .before .before .before .before .before .before .before .before .before .before .before .before .before .before .before .before .args .kind) (c .before .before .before .before .before .before .before .before .before .before .before .loop .inv) (list-labelled t (c .before .before .before .before .before .before .before)) (c .before .before .before .before .cel-value .last .1 .0) (c .before .before .before .before .before .before .before .before .before .before .before .before .before .before .before .before .before .before .before .before .args .node .0 + 1) (c .before .before .before .before .cel-value .last .1 .0) (c .enum-told2 .given .1) (c .before .before .before .before .cel-value .ensures))
+list-returns-3 t c =
+    let a = c .before .before .before .before .before .before .before .before .before .before .before .before .before .before .before .before .before .before .before .before .args in
+    list-whole t (c .before .before .before .before .before .before .before .before .before .before .before) (c .before .before .before .before .cel-value .last .1 .0) (c .before .before .before .before .cel-value .result) (child-up (a .kind) (c .before .before .before .before .before .before .before .before .before .before .before .loop .inv) (list-labelled t (c .before .before .before .before .before .before .before)) (c .before .before .before .before .cel-value .last .1 .0) (a .node .0 + 1) (c .before .before .before .before .cel-value .last .1 .0) (c .enum-told2 .given .1) (c .before .before .before .before .cel-value .ensures))
 
 list-add-count : (t : ℕ) → list-lts.Need-add-count (list-claims t) (list-at t) list.Post list-Inv-loop list-μ-loop
-list-add-count t c = omega (arith, c .before .before .before .before .before .before .before .before .before .before .before .before .loop .inv .fewer, c .before .before .before .before .before .before .before .before .before .before .before .before .loop .inv .room)
+list-add-count t c =
+    let l = c .before .before .before .before .before .before .before .before .before .before .before .before .loop in
+    omega (arith, l .inv .fewer, l .inv .room)
 
 list-deeper-requires : (t : ℕ) → list-lts.Need-deeper-requires (list-claims t) (list-at t) list.Post list-Inv-loop list-μ-loop
 list-deeper-requires t c κs = search needs

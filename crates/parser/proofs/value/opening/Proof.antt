@@ -1,8 +1,7 @@
 -- `value::opening` meets its contract: the name, and the kind that the byte after it opens. Assumes nothing.
-use mathlib.Core.Path.{refl, sym, ap, _∙_}
+use mathlib.Core.Path.{_∙_}
 use borrow.Author.Needs.{needs}
 use borrow.Author.Tests.{eq-eqb, ne-eqb}
-use Rattle.parser.specs.Kinds.{openerKind}
 use Rattle.parser.proofs.Values.{headed}
 use Rattle.parser.proofs.value.opening.Statement.{statement}
 use Rattle.parser.proofs.value.opening.Tie as tie

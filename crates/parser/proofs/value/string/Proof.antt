@@ -20,14 +20,17 @@ peek-requires : tie.Need-peek-requires
 peek-requires c κs = search needs
 
 returns : tie.Need-returns
-returns c = λ o left. string-refused (c .before .before .before .before .before .before .args .text .now) o (c .before .before .before .before .before .before .args .at .0) (c .before .before .before .run-of .result .0) (c .before .before .run-of2 .result .0) (c .before .before .before .before .before .before .args .node .0) left (c .before .before .before .run-of .ensures) (c .before .before .run-of2 .ensures) (c .before .before .before .before .before .before .pre .0 .0) (λ e. c .if1 .taken (c .before .peek .ensures ∙ e))
+returns c =
+    let a = c .before .before .before .before .before .before .args in
+    λ o left. string-refused (a .text .now) o (a .at .0) (c .before .before .before .run-of .result .0) (c .before .before .run-of2 .result .0) (a .node .0) left (c .before .before .before .run-of .ensures) (c .before .before .run-of2 .ensures) (c .before .before .before .before .before .before .pre .0 .0) (λ e. c .if1 .taken (c .before .peek .ensures ∙ e))
 
 add-t14 : tie.Need-add-t14
 add-t14 c = search needs
 
 open-row-requires : tie.Need-open-row-requires
 open-row-requires c κs =
-    let h : c .before .before .before .before .before .run-of .result .0 ≤ length (c .before .before .before .before .before .before .before .before .args .text .now) = rw (c .before .before .before .before .before .run-of .ensures) (end-within stringByte (c .before .before .before .before .before .before .before .before .args .text .now) (c .before .before .before .before .before .before .before .before .args .at .0) (c .before .before .before .before .before .before .before .before .pre .0 .0)) in
+    let a = c .before .before .before .before .before .before .before .before .args in
+    let h : c .before .before .before .before .before .run-of .result .0 ≤ length (a .text .now) = rw (c .before .before .before .before .before .run-of .ensures) (end-within stringByte (a .text .now) (a .at .0) (c .before .before .before .before .before .before .before .before .pre .0 .0)) in
     omega arith
 
 close-row-requires : tie.Need-close-row-requires
@@ -35,15 +38,18 @@ close-row-requires c κs = search needs
 
 add-t14-2 : tie.Need-add-t14-2
 add-t14-2 c =
-    let h : c .before .before .before .before .before .before .before .before .before .before .before .before .before .run-of .result .0 ≤ length (c .before .before .before .before .before .before .before .before .before .before .before .before .before .before .before .before .args .text .now) = rw (c .before .before .before .before .before .before .before .before .before .before .before .before .before .run-of .ensures) (end-within stringByte (c .before .before .before .before .before .before .before .before .before .before .before .before .before .before .before .before .args .text .now) (c .before .before .before .before .before .before .before .before .before .before .before .before .before .before .before .before .args .at .0) (c .before .before .before .before .before .before .before .before .before .before .before .before .before .before .before .before .pre .0 .0)) in
-    let h′ : c .before .before .before .before .before .before .before .before .before .before .before .before .run-of2 .result .0 ≤ length (c .before .before .before .before .before .before .before .before .before .before .before .before .before .before .before .before .args .text .now) = rw (c .before .before .before .before .before .before .before .before .before .before .before .before .run-of2 .ensures) (end-within blank (c .before .before .before .before .before .before .before .before .before .before .before .before .before .before .before .before .args .text .now) (c .before .before .before .before .before .before .before .before .before .before .before .before .before .run-of .result .0) h) in
+    let a = c .before .before .before .before .before .before .before .before .before .before .before .before .before .before .before .before .args in
+    let h : c .before .before .before .before .before .before .before .before .before .before .before .before .before .run-of .result .0 ≤ length (a .text .now) = rw (c .before .before .before .before .before .before .before .before .before .before .before .before .before .run-of .ensures) (end-within stringByte (a .text .now) (a .at .0) (c .before .before .before .before .before .before .before .before .before .before .before .before .before .before .before .before .pre .0 .0)) in
+    let h′ : c .before .before .before .before .before .before .before .before .before .before .before .before .run-of2 .result .0 ≤ length (a .text .now) = rw (c .before .before .before .before .before .before .before .before .before .before .before .before .run-of2 .ensures) (end-within blank (a .text .now) (c .before .before .before .before .before .before .before .before .before .before .before .before .before .run-of .result .0) h) in
     omega arith
 
 same-length : tie.Need-same-length
 same-length c = search needs
 
 returns-2 : tie.Need-returns-2
-returns-2 c = λ o left h. string-whole (c .before .before .before .before .before .before .before .before .before .before .before .before .before .before .before .before .args .text .now) o (c .before .before .before .before .before .before .before .before .before .before .before .before .before .before .before .before .args .at .0) (c .before .before .before .before .before .before .before .before .before .before .before .before .before .run-of .result .0) (c .before .before .before .before .before .before .before .before .before .before .before .before .run-of2 .result .0) (c .before .before .before .before .before .before .before .before .before .before .before .before .before .before .before .before .args .node .0) left (c .before .before .before .before .before .before .before .before .before .before .before .before .before .run-of .ensures) (c .before .before .before .before .before .before .before .before .before .before .before .before .run-of2 .ensures) (c .before .before .before .before .before .before .before .before .before .before .before .before .before .before .before .before .pre .0 .0) (sym (c .before .before .before .before .before .before .before .before .before .before .before .peek .ensures) ∙ c .before .before .before .before .before .before .before .before .before .before .if1 .left) (c .before .before .before .before .before .before .before .before .before .before .before .before .before .before .before .before .pre .0 .2) h (c .before .before .before .before .before .before .before .open-row .ensures) (c .before .before .before .close-row .ensures)
+returns-2 c =
+    let a = c .before .before .before .before .before .before .before .before .before .before .before .before .before .before .before .before .args in
+    λ o left h. string-whole (a .text .now) o (a .at .0) (c .before .before .before .before .before .before .before .before .before .before .before .before .before .run-of .result .0) (c .before .before .before .before .before .before .before .before .before .before .before .before .run-of2 .result .0) (a .node .0) left (c .before .before .before .before .before .before .before .before .before .before .before .before .before .run-of .ensures) (c .before .before .before .before .before .before .before .before .before .before .before .before .run-of2 .ensures) (c .before .before .before .before .before .before .before .before .before .before .before .before .before .before .before .before .pre .0 .0) (sym (c .before .before .before .before .before .before .before .before .before .before .before .peek .ensures) ∙ c .before .before .before .before .before .before .before .before .before .before .if1 .left) (c .before .before .before .before .before .before .before .before .before .before .before .before .before .before .before .before .pre .0 .2) h (c .before .before .before .before .before .before .before .open-row .ensures) (c .before .before .before .close-row .ensures)
 
 pub string-spec : {M : Type 1} → statement M
 string-spec =

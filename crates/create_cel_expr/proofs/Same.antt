@@ -1,4 +1,4 @@
--- Any two answers that meet the contract of `print_policy` are equal, and so are any two outputs. Assumes nothing.
+-- Any two answers that meet a public function's contract are equal. The public functions: `print_policy`. Assumes nothing.
 use mathlib.Core.Path.{_≡_, sym, _∙_}
 use lib.ListN.{length}
 use Rattle.cel_text.specs.Byte.{Text}
@@ -12,9 +12,9 @@ use Rattle.create_cel_expr.specs.declared.Printed.{Printed}
 told-injective : (r s : Printed) → told r ≡ told s → r ≡ s
 told-injective r s e = λ i. record { refusal = e i .refusal; name = e i .name; kind = e i .kind; place = e i .place; length = e i .length }
 
-print-policy-unique :
+print-policy-same :
     (p : Policy) (ws : Words) (x out : Text) (r s : Printed) (a b : Text)
     → told r ≡ printAnswer (numbers p) ws x (length out) → a ≡ printOutput (numbers p) ws x out
     → told s ≡ printAnswer (numbers p) ws x (length out) → b ≡ printOutput (numbers p) ws x out
     → (r ≡ s) × (a ≡ b)
-print-policy-unique p ws x out r s a b er ea es eb = (told-injective r s (er ∙ sym es), ea ∙ sym eb)
+print-policy-same p ws x out r s a b er ea es eb = (told-injective r s (er ∙ sym es), ea ∙ sym eb)

@@ -1,0 +1,2 @@
+-- Lemmas on the fields' definitions.
+mod Fields

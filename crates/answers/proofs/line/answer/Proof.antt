@@ -1,0 +1,90 @@
+-- `line::answer` is safe, and ends within out: what a request asks for is within the room. Assumes nothing.
+use mathlib.Core.Path.{sym, subst}
+use Prim.Native.Nat.{ℕ, _≤_}
+use borrow.Author.Needs.{needs}
+use lib.ListN.{length}
+use lib.Seq.{length-take-le}
+use Rattle.answers.specs.Fields.{Fitting}
+use Rattle.answers.proofs.line.answer.Statement.{statement}
+use Rattle.answers.proofs.line.answer.Tie as tie
+
+text-room-requires : tie.Need-text-room-requires
+text-room-requires c κs = search needs
+
+slice-aggregate-requested : tie.Need-slice-aggregate-requested
+slice-aggregate-requested c = search needs
+
+requested-requires : tie.Need-requested-requires
+requested-requires c κs = search needs
+
+enum-known-asked : tie.Need-enum-known-asked
+enum-known-asked c = search needs
+
+enum-told : tie.Need-enum-told
+enum-told c = search needs
+
+slice-aggregate-put : tie.Need-slice-aggregate-put
+slice-aggregate-put c = search needs
+
+put-requires : tie.Need-put-requires
+put-requires c κs = search needs
+
+same-length : tie.Need-same-length
+same-length c = search needs
+
+returns : tie.Need-returns
+returns c = search needs
+
+lent-words-requires : tie.Need-lent-words-requires
+lent-words-requires c κs = search needs
+
+array-share-prefix-text : tie.Need-array-share-prefix-text
+array-share-prefix-text c = subst (Fitting (length (c .before .before .before .before .before .requested .last .1 .0))) (c .before .before .asked .given .1) (c .before .before .before .before .before .requested .ensures) .0
+
+slice-aggregate-put-tree : tie.Need-slice-aggregate-put-tree
+slice-aggregate-put-tree c = sym (length-take-le _ (c .before .before .before .before .before .before .requested .last .1 .0) (subst (Fitting (length (c .before .before .before .before .before .before .requested .last .1 .0))) (c .before .before .before .asked .given .1) (c .before .before .before .before .before .before .requested .ensures) .0))
+
+array-borrow-prefix-table : tie.Need-array-borrow-prefix-table
+array-borrow-prefix-table c = subst (λ (k : ℕ). c .before .before .before .asked .given .0 .0 .nodes ≤ k) (c .before .lent-words .ensures) (subst (Fitting (length (c .before .before .before .before .before .before .requested .last .1 .0))) (c .before .before .before .asked .given .1) (c .before .before .before .before .before .before .requested .ensures) .1)
+
+slice-aggregate-put-tree-2 : tie.Need-slice-aggregate-put-tree-2
+slice-aggregate-put-tree-2 c = sym (length-take-le _ (c .before .before .lent-words .result) (subst (λ (k : ℕ). c .before .before .before .before .asked .given .0 .0 .nodes ≤ k) (c .before .before .lent-words .ensures) (subst (Fitting (length (c .before .before .before .before .before .before .before .requested .last .1 .0))) (c .before .before .before .before .asked .given .1) (c .before .before .before .before .before .before .before .requested .ensures) .1)))
+
+put-tree-requires : tie.Need-put-tree-requires
+put-tree-requires c κs = search needs
+
+slice-aggregate-put-2 : tie.Need-slice-aggregate-put-2
+slice-aggregate-put-2 c = search needs
+
+put-requires-2 : tie.Need-put-requires-2
+put-requires-2 c κs = search needs
+
+same-length-2 : tie.Need-same-length-2
+same-length-2 c = search needs
+
+returns-2 : tie.Need-returns-2
+returns-2 c = search needs
+
+pub answer-spec : {M : Type 1} → statement M
+answer-spec =
+    tie.close
+    (tie.spec
+    text-room-requires
+    slice-aggregate-requested
+    requested-requires
+    enum-known-asked
+    enum-told
+    slice-aggregate-put
+    put-requires
+    same-length
+    returns
+    lent-words-requires
+    array-share-prefix-text
+    slice-aggregate-put-tree
+    array-borrow-prefix-table
+    slice-aggregate-put-tree-2
+    put-tree-requires
+    slice-aggregate-put-2
+    put-requires-2
+    same-length-2
+    returns-2)
