@@ -122,7 +122,7 @@ find-wide x n h = rw (le-ltb n nodeWords h)
 drop-front : (n : ℕ) (w : Words) → n ≤ length w → drop n (take n w) ≡ []
 drop-front n w h = let less : length (take n w) ≤ n = omega (arith, length-take-le n w h) in drop-of-length-le (take n w) less
 
-hold-front : (l : Left) (n : ℕ) (ws w : Words) → n ≤ length w → hold l n ws (take n w) ++ drop n w ≡ hold l n ws w
+pub hold-front : (l : Left) (n : ℕ) (ws w : Words) → n ≤ length w → hold l n ws (take n w) ++ drop n w ≡ hold l n ws w
 hold-front untouched n ws w h = take-append-drop n w
 hold-front cleared n ws w h = rw (drop-front n w h, append-nil)
 hold-front filled n ws w h = rw (drop-front n w h, append-nil, append-assoc)

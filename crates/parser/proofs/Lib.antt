@@ -2,10 +2,10 @@
 mod Classes
 mod Runs
 mod Machine
-mod Rows
+pub mod Rows
 mod Values
 mod Lists
 mod Handed
-mod Answers
+pub mod Answers
 pub mod Same
 pub mod Accepted

@@ -1,6 +1,6 @@
 // Reading a tree: the port of parser.rs. `read_tree` says what a text reads as, and leaves the tree's rows in a lent table.
 // Its contract cites the definitions of `cel_text`, for every text and every table, and asks nothing of the caller.
-mod row;
+pub mod row;
 pub mod scan;
 mod value;
 

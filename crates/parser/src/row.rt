@@ -44,7 +44,7 @@ pub(crate) fn close_row(table: &mut [u32], node: Node, children: usize, past: No
 }
 
 // Sets every word from `from` on to 0.
-pub(crate) fn clear(table: &mut [u32], from: usize)
+pub fn clear(table: &mut [u32], from: usize)
     ensures { λ _. ⌜ now (table .exit) ≡ take from (now (table .entry)) ++ replicate (length (now (table .entry)) - from) 0 ⌝ }
 {
     let mut i = from;

@@ -75,12 +75,12 @@ sized-cases P t r a b c =
 
 -- ---- the refusals
 
-faultNumber-range : (f : Fault) → (4 ≤ faultNumber f) × (faultNumber f ≤ 6)
+pub faultNumber-range : (f : Fault) → (4 ≤ faultNumber f) × (faultNumber f ≤ 6)
 faultNumber-range syntax = between tt tt
 faultNumber-range tooDeep = between tt tt
 faultNumber-range tooMany = between tt tt
 
-refusal-range : (n : Node Span) (r : Refusal) → mapping n ≡ bad r → OfMapping (r .refusal)
+pub refusal-range : (n : Node Span) (r : Refusal) → mapping n ≡ bad r → OfMapping (r .refusal)
 refusal-range n r e = rw e at (meets-mapping n)
 
 -- read a tree

@@ -1,0 +1,10 @@
+pub mod Same
+pub mod View
+pub mod Walk
+pub mod Steps
+pub mod Lists
+pub mod Parts
+pub mod Written
+pub mod Spans
+pub mod Policies
+pub mod Unique
