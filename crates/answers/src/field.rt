@@ -110,6 +110,21 @@ pub(crate) fn all_are(words: &[u32], from: usize, to: usize, w: u32) -> bool
     true
 }
 
+// Whether each byte from `from` up to `to` is b.
+pub(crate) fn all_bytes_are(row: &[u8], from: usize, to: usize, b: u8) -> bool
+    requires { ⌜ to ≤ length (now row) ⌝ }
+    ensures { λ r. ⌜ r ≡ everyIs (now (row .entry)) from to b ⌝ }
+{
+    let mut i = from;
+    while i < to {
+        if row[i] != b {
+            return false;
+        }
+        i += 1;
+    }
+    true
+}
+
 // Puts src into out at a place, where it has room, and says where it ends.
 pub(crate) fn put(out: &mut [u8], at: usize, src: &[u8]) -> usize
     requires { ⌜ at ≤ length (now out) ⌝ }
@@ -156,4 +171,37 @@ fn put_item(out: &mut [u8], at: usize, w: u32, i: usize) -> usize
     }
     let next = put(out, at, b",");
     put_number(out, next, w)
+}
+
+fn digit(n: u8) -> u8
+    requires { ⌜ n < 16 ⌝ }
+{
+    if n < 10 {
+        return b'0' + n;
+    }
+    b'a' + (n - 10)
+}
+
+// Puts one byte in hex.
+fn put_byte(out: &mut [u8], at: usize, b: u8) -> usize
+    requires { ⌜ at ≤ length (now out) ⌝ }
+    ensures { λ r. ⌜ r ≤ length (now (out .exit)) ⌝ }
+{
+    let pair = [digit(b / 16), digit(b % 16)];
+    put(out, at, &pair)
+}
+
+// Puts the first n bytes in hex.
+pub(crate) fn put_hex(out: &mut [u8], at: usize, row: &[u8], n: usize) -> usize
+    requires { ⌜ at ≤ length (now out) ⌝ }
+    requires { ⌜ n ≤ length (now row) ⌝ }
+    ensures { λ r. ⌜ r ≤ length (now (out .exit)) ⌝ }
+{
+    let mut end = at;
+    let mut i = 0;
+    while i < n {
+        end = put_byte(out, end, row[i]);
+        i += 1;
+    }
+    end
 }

@@ -3,14 +3,13 @@ ghost use mathlib.Core.Path.{_≡_};
 ghost use Prim.Native.Nat.{_≤_, _<_};
 ghost use lib.ListN.{length};
 ghost use Rattle.answers.specs.Fields.{Within, Fitting};
+use crate::entry;
 use crate::field;
 use crate::field::Count;
 
 const MOST_WORDS: u32 = 4096;
 
 const MOST_BYTES: u32 = 16384;
-
-const FILL: u32 = 0xA5A5_A5A5;
 
 // How much a request lends: the text's bytes, node words, span words and output bytes.
 pub(crate) struct Request {
@@ -82,60 +81,11 @@ fn requested(line: &[u8], text: &mut [u8]) -> Asked
     })
 }
 
-// Whether the words after the rows are as document 01 says: 0 up to the counted words, the others as lent.
-fn is_clean(table: &[u32], rows: usize, refusal: u32) -> bool {
-    let counted = if refusal == parser::TABLE_TOO_SHORT {
-        0
-    } else {
-        parser::NODE_WORDS
-    };
-    if table.len() < counted {
-        return false;
-    }
-    if field::all_are(table, rows, counted, 0) {
-        return field::all_are(table, counted, table.len(), FILL);
-    }
-    false
-}
-
-// The three fields of `read_tree` on a text and a table that is lent.
-fn put_tree(text: &[u8], table: &mut [u32], out: &mut [u8], at: usize) -> usize
-    requires { ⌜ at ≤ length (now out) ⌝ }
-    ensures { λ r. ⌜ r ≤ length (now (out .exit)) ⌝ }
-{
-    let a = parser::read_tree(text, table);
-    let numbers = [a.refusal, a.name, a.kind, a.place, a.nodes, a.depth];
-    let end = field::put_words(out, at, &numbers, 6);
-    let end = field::put(out, end, b"\t");
-    let rows = rows_in(table, a.nodes);
-    let end = field::put_words(out, end, table, rows);
-    let end = field::put(out, end, b"\t");
-    if is_clean(table, rows, a.refusal) {
-        return field::put(out, end, b"clean");
-    }
-    field::put(out, end, b"dirty")
-}
-
-// The words of that many rows, as far as the table has them.
-fn rows_in(table: &[u32], nodes: u32) -> usize
-    ensures { λ r. ⌜ r ≤ length (now (table .entry)) ⌝ }
-{
-    let n = parser::ROW_WORDS * (nodes as usize);
-    if n <= table.len() { n } else { table.len() }
-}
-
-// Room for the longest text. The `ensures` of the two gives the length, which lending a part needs.
+// Room for the longest text. The `ensures` gives the length, which lending a part needs.
 fn text_room() -> [u8; 16384]
     ensures { λ r. ⌜ 16384 ≡ length r ⌝ }
 {
     [0; 16384]
-}
-
-// The words that a table is lent from.
-fn lent_words() -> [u32; 4096]
-    ensures { λ r. ⌜ 4096 ≡ length r ⌝ }
-{
-    [FILL; 4096]
 }
 
 // The answer to a request's line; its length.
@@ -149,7 +99,7 @@ pub(crate) fn answer(line: &[u8], out: &mut [u8]) -> usize
     };
     let n = lent.text;
     let words = lent.nodes;
-    let mut table = lent_words();
-    let end = put_tree(&text[..n], &mut table[..words], out, 0);
-    field::put(out, end, b"\n")
+    let pairs = lent.spans;
+    let room = lent.room;
+    entry::put_all(&text[..n], words, pairs, room, out)
 }

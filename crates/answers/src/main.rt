@@ -1,6 +1,9 @@
 // Answers requests, one a line, for tests and for support: a text in hex, then perhaps, each after a tab, the number of node
 // words lent, of span words and of output bytes. What is lent is filled with 0xA5 bytes. The answer is a line of fields after
-// tabs: the numbers of `read_tree`; the words of its rows; whether every other word is as document 01 says.
+// tabs: the numbers of `read_tree`; the words of its rows; whether every other word is as document 01 says; the same three of
+// `read_policy`, its words being those of the strings' spans; the host entry's number, the printed bytes in hex, and whether every
+// other byte is as lent.
+mod entry;
 mod field;
 mod line;
 

@@ -1,4 +1,4 @@
-//! The judge's line for one text. The format is described in tests/fixed/README.md.
+//! The judge's line for one text. The format is described in tests/FIXED-LIST.md.
 
 use crate::cel::ast_mapping::map_cel_ast;
 use crate::cel::error::CelParserError;

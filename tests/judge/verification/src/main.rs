@@ -1,5 +1,5 @@
 //! The judge: the original Rust asked one text a line, in hex, on standard input.
-//! The lines it answers are described in tests/fixed/README.md.
+//! The lines it answers are described in tests/FIXED-LIST.md.
 
 mod answer;
 mod cel;

@@ -35,29 +35,14 @@ same-length c = search needs
 returns : tie.Need-returns
 returns c = search needs
 
-lent-words-requires : tie.Need-lent-words-requires
-lent-words-requires c κs = search needs
-
 array-share-prefix-text : tie.Need-array-share-prefix-text
-array-share-prefix-text c = subst (Fitting (length (c .before .before .before .before .before .requested .last .1 .0))) (c .before .before .asked .given .1) (c .before .before .before .before .before .requested .ensures) .0
+array-share-prefix-text c = subst (Fitting (length (c .before .before .before .before .requested .last .1 .0))) (c .before .asked .given .1) (c .before .before .before .before .requested .ensures) .0
 
-slice-aggregate-put-tree : tie.Need-slice-aggregate-put-tree
-slice-aggregate-put-tree c = sym (length-take-le _ (c .before .before .before .before .before .before .requested .last .1 .0) (subst (Fitting (length (c .before .before .before .before .before .before .requested .last .1 .0))) (c .before .before .before .asked .given .1) (c .before .before .before .before .before .before .requested .ensures) .0))
+slice-aggregate-put-all : tie.Need-slice-aggregate-put-all
+slice-aggregate-put-all c = sym (length-take-le _ (c .before .before .before .before .before .requested .last .1 .0) (subst (Fitting (length (c .before .before .before .before .before .requested .last .1 .0))) (c .before .before .asked .given .1) (c .before .before .before .before .before .requested .ensures) .0))
 
-array-borrow-prefix-table : tie.Need-array-borrow-prefix-table
-array-borrow-prefix-table c = subst (λ (k : ℕ). c .before .before .before .asked .given .0 .0 .nodes ≤ k) (c .before .lent-words .ensures) (subst (Fitting (length (c .before .before .before .before .before .before .requested .last .1 .0))) (c .before .before .before .asked .given .1) (c .before .before .before .before .before .before .requested .ensures) .1)
-
-slice-aggregate-put-tree-2 : tie.Need-slice-aggregate-put-tree-2
-slice-aggregate-put-tree-2 c = sym (length-take-le _ (c .before .before .lent-words .result) (subst (λ (k : ℕ). c .before .before .before .before .asked .given .0 .0 .nodes ≤ k) (c .before .before .lent-words .ensures) (subst (Fitting (length (c .before .before .before .before .before .before .before .requested .last .1 .0))) (c .before .before .before .before .asked .given .1) (c .before .before .before .before .before .before .before .requested .ensures) .1)))
-
-put-tree-requires : tie.Need-put-tree-requires
-put-tree-requires c κs = search needs
-
-slice-aggregate-put-2 : tie.Need-slice-aggregate-put-2
-slice-aggregate-put-2 c = search needs
-
-put-requires-2 : tie.Need-put-requires-2
-put-requires-2 c κs = search needs
+put-all-requires : tie.Need-put-all-requires
+put-all-requires c κs = (subst (Fitting (length (c .before .before .before .before .before .before .requested .last .1 .0))) (c .before .before .before .asked .given .1) (c .before .before .before .before .before .before .requested .ensures) .1, (subst (Fitting (length (c .before .before .before .before .before .before .requested .last .1 .0))) (c .before .before .before .asked .given .1) (c .before .before .before .before .before .before .requested .ensures) .2, subst (Fitting (length (c .before .before .before .before .before .before .requested .last .1 .0))) (c .before .before .before .asked .given .1) (c .before .before .before .before .before .before .requested .ensures) .3))
 
 same-length-2 : tie.Need-same-length-2
 same-length-2 c = search needs
@@ -78,13 +63,8 @@ answer-spec =
     put-requires
     same-length
     returns
-    lent-words-requires
     array-share-prefix-text
-    slice-aggregate-put-tree
-    array-borrow-prefix-table
-    slice-aggregate-put-tree-2
-    put-tree-requires
-    slice-aggregate-put-2
-    put-requires-2
+    slice-aggregate-put-all
+    put-all-requires
     same-length-2
     returns-2)

@@ -1,0 +1,232 @@
+// The judge's words for an answer. Each function writes from a place on and answers the place after what it wrote.
+ghost use Prim.Native.Nat.{_≤_};
+ghost use lib.ListN.{length};
+use ast_mapping::Policy;
+use ast_mapping::name;
+use lines::put;
+use parser::ARRAY;
+use parser::FUNCTION;
+use parser::OBJECT;
+use parser::STRING;
+
+fn put_name(out: &mut [u8], at: usize, name: u32) -> usize
+    requires { ⌜ at ≤ length (now out) ⌝ }
+    ensures { λ r. ⌜ r ≤ length (now (out .exit)) ⌝ }
+{
+    match name {
+        name::DEFAULT_CERTIFICATION => put(out, at, b"\tdefault_certification"),
+        name::VALIDATION_ARGS => put(out, at, b"\tValidationArgs"),
+        name::NO_CERTIFICATION => put(out, at, b"\tno_certification"),
+        name::CERTIFICATION => put(out, at, b"\tcertification"),
+        name::CERTIFICATION_OBJECT => put(out, at, b"\tCertification"),
+        name::NO_REQUEST_CERTIFICATION => put(out, at, b"\tno_request_certification"),
+        name::REQUEST_CERTIFICATION => put(out, at, b"\trequest_certification"),
+        name::REQUEST_CERTIFICATION_OBJECT => put(out, at, b"\tRequestCertification"),
+        name::CERTIFIED_REQUEST_HEADERS => put(out, at, b"\tcertified_request_headers"),
+        name::CERTIFIED_QUERY_PARAMETERS => put(out, at, b"\tcertified_query_parameters"),
+        name::RESPONSE_CERTIFICATION => put(out, at, b"\tresponse_certification"),
+        name::RESPONSE_CERTIFICATION_OBJECT => put(out, at, b"\tResponseCertification"),
+        name::CERTIFIED_RESPONSE_HEADERS => put(out, at, b"\tcertified_response_headers"),
+        name::RESPONSE_HEADER_EXCLUSIONS => put(out, at, b"\tresponse_header_exclusions"),
+        name::RESPONSE_HEADER_LIST => put(out, at, b"\tResponseHeaderList"),
+        name::HEADERS => put(out, at, b"\theaders"),
+        _ => at,
+    }
+}
+
+fn put_kind(out: &mut [u8], at: usize, kind: u32) -> usize
+    requires { ⌜ at ≤ length (now out) ⌝ }
+    ensures { λ r. ⌜ r ≤ length (now (out .exit)) ⌝ }
+{
+    match kind {
+        STRING => put(out, at, b"\tString"),
+        ARRAY => put(out, at, b"\tArray"),
+        OBJECT => put(out, at, b"\tObject"),
+        FUNCTION => put(out, at, b"\tFunction"),
+        _ => at,
+    }
+}
+
+// A refusal that the Rust makes as well.
+fn put_error(out: &mut [u8], refusal: u32) -> usize
+    ensures { λ r. ⌜ r ≤ length (now (out .exit)) ⌝ }
+{
+    match refusal {
+        4 => put(out, 0, b"CelSyntaxException"),
+        7 => put(out, 0, b"UnexpectedNodeType"),
+        8 => put(out, 0, b"UnexpectedNodeName"),
+        9 => put(out, 0, b"MissingFunctionParameter"),
+        10 => put(out, 0, b"MissingObjectProperty"),
+        11 => put(out, 0, b"ExtraneousValidationArgsProperty"),
+        12 => put(out, 0, b"MissingValidationArgsProperty"),
+        13 => put(out, 0, b"ExtraneousRequestCertificationProperty"),
+        14 => put(out, 0, b"MissingRequestCertificationProperty"),
+        15 => put(out, 0, b"ExtraneousResponseCertificationProperty"),
+        16 => put(out, 0, b"MissingResponseCertificationProperty"),
+        _ => put_limit(out, refusal),
+    }
+}
+
+fn put_limit(out: &mut [u8], refusal: u32) -> usize
+    ensures { λ r. ⌜ r ≤ length (now (out .exit)) ⌝ }
+{
+    let end = put(out, 0, b"limit\t");
+    lines::put_number(out, end, refusal)
+}
+
+fn put_form(out: &mut [u8], at: usize, form: u32) -> usize
+    requires { ⌜ at ≤ length (now out) ⌝ }
+    ensures { λ r. ⌜ r ≤ length (now (out .exit)) ⌝ }
+{
+    match form {
+        ast_mapping::SKIP => put(out, at, b"\tSkip"),
+        ast_mapping::RESPONSE_ONLY => put(out, at, b"\tResponseOnly"),
+        _ => put(out, at, b"\tFull"),
+    }
+}
+
+fn put_list_kind(out: &mut [u8], at: usize, kind: u32) -> usize
+    requires { ⌜ at ≤ length (now out) ⌝ }
+    ensures { λ r. ⌜ r ≤ length (now (out .exit)) ⌝ }
+{
+    match kind {
+        ast_mapping::INCLUSIONS => put(out, at, b"\tinclusions"),
+        ast_mapping::EXCLUSIONS => put(out, at, b"\texclusions"),
+        _ => put(out, at, b"\tnone"),
+    }
+}
+
+// The bytes from `from` up to `to` of the text, as far as it has them.
+fn put_part(out: &mut [u8], at: usize, text: &[u8], from: usize, to: usize) -> usize
+    requires { ⌜ at ≤ length (now out) ⌝ }
+    ensures { λ r. ⌜ r ≤ length (now (out .exit)) ⌝ }
+{
+    if text.len() < to {
+        return at;
+    }
+    if to < from {
+        return at;
+    }
+    put(out, at, &text[from..to])
+}
+
+// A string in double quotes.
+fn put_string(out: &mut [u8], at: usize, text: &[u8], from: usize, to: usize) -> usize
+    requires { ⌜ at ≤ length (now out) ⌝ }
+    ensures { λ r. ⌜ r ≤ length (now (out .exit)) ⌝ }
+{
+    let begin = put(out, at, b"\"");
+    let end = put_part(out, begin, text, from, to);
+    put(out, end, b"\"")
+}
+
+// The comma between the strings of a list.
+fn put_comma(out: &mut [u8], at: usize, first: bool) -> usize
+    requires { ⌜ at ≤ length (now out) ⌝ }
+    ensures { λ r. ⌜ r ≤ length (now (out .exit)) ⌝ }
+{
+    if first {
+        return at;
+    }
+    put(out, at, b",")
+}
+
+// A field with the strings from string `first` up to string `last` of the span table.
+fn put_strings(
+    out: &mut [u8],
+    at: usize,
+    text: &[u8],
+    spans: &[u32],
+    first: usize,
+    last: usize,
+) -> usize
+    requires { ⌜ at ≤ length (now out) ⌝ }
+    ensures { λ r. ⌜ r ≤ length (now (out .exit)) ⌝ }
+{
+    let mut end = put(out, at, b"\t");
+    let mut i = first;
+    while i < last {
+        if spans.len() / 2 <= i {
+            return end;
+        }
+        let from = spans[2 * i];
+        let to = spans[2 * i + 1];
+        end = put_comma(out, end, i == first);
+        end = put_string(out, end, text, from as usize, to as usize);
+        i += 1;
+    }
+    end
+}
+
+// The three lists, one after the other in the span table.
+fn put_lists(out: &mut [u8], at: usize, policy: Policy, text: &[u8], spans: &[u32]) -> usize
+    requires { ⌜ at ≤ length (now out) ⌝ }
+    ensures { λ r. ⌜ r ≤ length (now (out .exit)) ⌝ }
+{
+    let request = policy.request as usize;
+    let query = request + policy.query as usize;
+    let response = query + policy.response as usize;
+    let end = put_strings(out, at, text, spans, 0, request);
+    let end = put_strings(out, end, text, spans, request, query);
+    put_strings(out, end, text, spans, query, response)
+}
+
+// An accepted text: its policy, and the text that printing gives, of which there are `size` bytes.
+fn put_policy(
+    out: &mut [u8],
+    policy: Policy,
+    text: &[u8],
+    spans: &[u32],
+    printed: &[u8],
+    size: usize,
+) -> usize
+    ensures { λ r. ⌜ r ≤ length (now (out .exit)) ⌝ }
+{
+    let end = put(out, 0, b"ok");
+    let end = put_form(out, end, policy.form);
+    let end = put_list_kind(out, end, policy.kind);
+    let end = put_lists(out, end, policy, text, spans);
+    let end = put(out, end, b"\t");
+    put_part(out, end, printed, 0, size)
+}
+
+fn put_refused(out: &mut [u8], refusal: u32, name: u32, kind: u32) -> usize
+    ensures { λ r. ⌜ r ≤ length (now (out .exit)) ⌝ }
+{
+    let end = put_error(out, refusal);
+    let end = put_name(out, end, name);
+    put_kind(out, end, kind)
+}
+
+// The judge's line for a text, without its line end.
+pub(crate) fn put_verdict(text: &[u8], out: &mut [u8]) -> usize
+    ensures { λ r. ⌜ r ≤ length (now (out .exit)) ⌝ }
+{
+    let mut nodes = [0u32; 2048];
+    let mut spans = [0u32; 512];
+    let read = ast_mapping::read_policy(text, &mut nodes, &mut spans);
+    let answer = read.answer;
+    if answer.refusal != 0 {
+        return put_refused(out, answer.refusal, answer.name, answer.kind);
+    }
+    let policy = read.policy;
+    put_accepted(out, policy, text, &spans)
+}
+
+fn put_accepted(out: &mut [u8], policy: Policy, text: &[u8], spans: &[u32]) -> usize
+    ensures { λ r. ⌜ r ≤ length (now (out .exit)) ⌝ }
+{
+    let mut printed = [0u8; 8192];
+    let given = create_cel_expr::Policy {
+        form: policy.form,
+        kind: policy.kind,
+        request: policy.request,
+        query: policy.query,
+        response: policy.response,
+    };
+    let print = create_cel_expr::print_policy(given, text, spans, &mut printed);
+    if print.refusal != 0 {
+        return put_limit(out, print.refusal);
+    }
+    put_policy(out, policy, text, spans, &printed, print.length as usize)
+}
