@@ -1,22 +1,64 @@
--- The two classes that hold every alphanumeric byte and one byte more. Assumes nothing.
-use mathlib.Core.Path.{_≡_}
-use Prim.Native.Nat.{ℕ}
-use mathlib.Core.Bool.{true, false}
-use lib.Dec.{eqb}
+-- The two classes that hold every letter, every digit and one byte more; and letters, told from the bytes with bit 5 set. Assumes
+-- nothing.
+use mathlib.Core.Path.{_≡_, refl, sym, subst}
+use Prim.Native.Nat.{ℕ, zero, suc, _<_}
+use native.Mathlib.Nat.{le-of-suc-le-suc, not-suc-le-zero, eq-or-lt-of-le}
+use mathlib.Core.Bool.{Bool, true, false, not, cond, _&&_, _||_}
+use mathlib.Core.Logic.{⊎-elim}
+use lib.Dec.{eqb, leb}
+use lib.Bits.{bitOr}
 use Rattle.cel_text.specs.Byte.{alphanumeric, identByte, stringByte}
+use Rattle.parser.specs.Run.{letter, digit}
 
-pub ident-alphanumeric : (b : ℕ) → alphanumeric b ≡ true → identByte b ≡ true
-unfolding alphanumeric identByte
-ident-alphanumeric b h = rw h
+-- letters and digits are what both classes share
+module _ (b : ℕ) where
+  shared : (d u l : Bool) → d || u || l ≡ (u || l) || d
+  shared true true l = refl
+  shared true false true = refl
+  shared true false false = refl
+  shared false true true = refl
+  shared false true false = refl
+  shared false false true = refl
+  shared false false false = refl
 
-pub ident-other : (b : ℕ) → alphanumeric b ≡ false → identByte b ≡ eqb b 95
-unfolding alphanumeric identByte
-ident-other b h = rw h
+  letters-digits : alphanumeric b ≡ letter b || digit b
+  unfolding alphanumeric
+  letters-digits = shared (leb 48 b && leb b 57) (leb 65 b && leb b 90) (leb 97 b && leb b 122)
 
-pub content-alphanumeric : (b : ℕ) → alphanumeric b ≡ true → stringByte b ≡ true
-unfolding alphanumeric stringByte
-content-alphanumeric b h = rw h
+  pub ident-tests : identByte b ≡ letter b || digit b || eqb b 95
+  unfolding identByte
+  ident-tests = rw letters-digits
 
-pub content-other : (b : ℕ) → alphanumeric b ≡ false → stringByte b ≡ eqb b 45
-unfolding alphanumeric stringByte
-content-other b h = rw h
+  pub content-tests : stringByte b ≡ letter b || digit b || eqb b 45
+  unfolding stringByte
+  content-tests = rw letters-digits
+
+-- whether all numbers below n pass a test
+abbrev all : (ℕ → Bool) → ℕ → Bool
+all f zero = true
+all f (suc n) = f n && all f n
+
+both : (a b : Bool) → a && b ≡ true → (a ≡ true) × (b ≡ true)
+both true b h = (refl, h)
+both false b h = (h, cc)
+
+all-at : (f : ℕ → Bool) (n : ℕ) → all f n ≡ true → (b : ℕ) → b < n → f b ≡ true
+all-at f zero h b l = absurd (not-suc-le-zero l)
+all-at f (suc n) h b l =
+    let w = both (f n) (all f n) h in
+    ⊎-elim (λ e. subst (λ (k : ℕ). f k ≡ true) (sym e) (w .0)) (λ m. all-at f n (w .1) b m) (eq-or-lt-of-le (le-of-suc-le-suc l))
+
+abbrev alike : Bool → Bool → Bool
+alike a b = cond a b (not b)
+
+alike-same : (a b : Bool) → alike a b ≡ true → a ≡ b
+alike-same true b h = sym h
+alike-same false true h = h
+alike-same false false h = refl
+
+abbrev folded : ℕ → Bool
+folded b = leb 97 (bitOr b 32) && leb (bitOr b 32) 122
+
+-- a byte is a letter exactly where it is a small one with bit 5 set; byte by byte
+pub letter-folded : (b : ℕ) → b < 256 → letter b ≡ folded b
+letter-folded b l = sym (alike-same (folded b) (letter b) (all-at (λ k. alike (folded k) (letter k)) 256 refl b l))

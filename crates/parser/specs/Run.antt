@@ -1,8 +1,9 @@
 -- Runs of a class of bytes, as the contracts of `scan` cite them. Assumes nothing.
 use mathlib.Core.Path.{_≡_}
 use Prim.Native.Nat.{ℕ, _+_}
-use mathlib.Core.Bool.{Bool}
+use mathlib.Core.Bool.{Bool, _&&_, _||_}
 use lib.ListN.{drop}
+use lib.Dec.{leb}
 use Rattle.cel_text.specs.Byte.{Text, blank, identByte, stringByte, ascii, lead}
 use Rattle.parser.specs.declared.scan.Class.{Class}
 use Rattle.parser.specs.declared.scan.Class.the-variants.{Blank, Ident, Content, Ascii}
@@ -12,6 +13,13 @@ classOf Blank = blank
 classOf Ident = identByte
 classOf Content = stringByte
 classOf Ascii = ascii
+
+-- the two classes that identifiers and strings share
+abbrev pub digit : ℕ → Bool
+digit b = leb 48 b && leb b 57
+
+abbrev pub letter : ℕ → Bool
+letter b = leb 65 b && leb b 90 || leb 97 b && leb b 122
 
 -- where the run of bytes of one class ends that begins at place p of x
 abbrev pub endOf : (ℕ → Bool) → Text → ℕ → ℕ

@@ -2,8 +2,8 @@
 ghost use mathlib.Core.Path.{_≡_};
 ghost use Prim.Native.Nat.{ℕ, _≤_, _<_, max};
 ghost use lib.ListN.{length, getD};
-ghost use Rattle.cel_text.specs.Byte.{blank, alphanumeric, ascii};
-ghost use Rattle.parser.specs.Run.{classOf, endOf, NamedAt};
+ghost use Rattle.cel_text.specs.Byte.{blank, identByte, stringByte, ascii};
+ghost use Rattle.parser.specs.Run.{classOf, endOf, NamedAt, letter, digit};
 use crate::Place;
 
 // The classes of bytes that runs are made of.
@@ -87,54 +87,71 @@ fn has(class: Class, b: u8) -> bool
 {
     match class {
         Class::Blank => is_blank(b),
-        Class::Ident => {
-            if is_alphanumeric(b) {
-                return true;
-            }
-            b == b'_'
-        }
-        Class::Content => {
-            if is_alphanumeric(b) {
-                return true;
-            }
-            b == b'-'
-        }
+        Class::Ident => is_ident(b),
+        Class::Content => is_content(b),
         Class::Ascii => b < 128,
     }
 }
 
+// Most bytes are no blanks, and greater than all of them.
 fn is_blank(b: u8) -> bool
     ensures { λ r. ⌜ r ≡ blank b ⌝ }
 {
-    if b == b' ' {
-        return true;
+    if b' ' < b {
+        return false;
     }
-    if b == b'\t' {
+    if b == b' ' {
         return true;
     }
     if b == b'\n' {
         return true;
     }
+    if b == b'\t' {
+        return true;
+    }
     b == b'\r'
 }
 
-fn is_alphanumeric(b: u8) -> bool
-    ensures { λ r. ⌜ r ≡ alphanumeric b ⌝ }
+fn is_ident(b: u8) -> bool
+    ensures { λ r. ⌜ r ≡ identByte b ⌝ }
+{
+    if is_letter(b) {
+        return true;
+    }
+    if is_digit(b) {
+        return true;
+    }
+    b == b'_'
+}
+
+fn is_content(b: u8) -> bool
+    ensures { λ r. ⌜ r ≡ stringByte b ⌝ }
+{
+    if is_letter(b) {
+        return true;
+    }
+    if is_digit(b) {
+        return true;
+    }
+    b == b'-'
+}
+
+// A capital and its small letter differ in bit 5 alone.
+fn is_letter(b: u8) -> bool
+    ensures { λ r. ⌜ r ≡ letter b ⌝ }
+{
+    let small = b | 32;
+    if small < b'a' {
+        return false;
+    }
+    small <= b'z'
+}
+
+fn is_digit(b: u8) -> bool
+    ensures { λ r. ⌜ r ≡ digit b ⌝ }
 {
     if b < b'0' {
         return false;
     }
-    if b <= b'9' {
-        return true;
-    }
-    if b < b'A' {
-        return false;
-    }
-    if b <= b'Z' {
-        return true;
-    }
-    if b < b'a' {
-        return false;
-    }
-    b <= b'z'
+    b <= b'9'
 }
