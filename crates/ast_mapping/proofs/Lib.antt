@@ -1,4 +1,4 @@
-pub mod Same
+pub mod Names
 pub mod View
 pub mod Walk
 pub mod Steps
@@ -7,4 +7,4 @@ pub mod Parts
 pub mod Written
 pub mod Spans
 pub mod Policies
-pub mod Unique
+pub mod Same

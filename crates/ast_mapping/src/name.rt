@@ -1,5 +1,7 @@
 // The sixteen names of document 01, by their numbers, and how they are spelled.
 ghost use mathlib.Core.Path.{_≡_};
+ghost use mathlib.Core.Bool.{_&&_};
+ghost use lib.Dec.{eqb};
 ghost use Rattle.cel_policy.specs.Names.{same, spelling};
 
 pub const DEFAULT_CERTIFICATION: u32 = 1;
@@ -34,21 +36,26 @@ pub const RESPONSE_HEADER_LIST: u32 = 15;
 
 pub const HEADERS: u32 = 16;
 
-// Whether a and b hold the same bytes.
+// Whether a and b hold the same bytes. The loop has no way out, so that it takes many bytes at a time.
 fn equal(a: &[u8], b: &[u8]) -> bool
     ensures { λ r. ⌜ r ≡ same (now (a .entry)) (now (b .entry)) ⌝ }
 {
     if a.len() != b.len() {
         return false;
     }
+    let mut so = true;
     let mut i = 0;
     while i < a.len() {
-        if a[i] != b[i] {
-            return false;
-        }
+        so = still(so, a[i], b[i]);
         i += 1;
     }
-    true
+    so
+}
+
+fn still(so: bool, x: u8, y: u8) -> bool
+    ensures { λ r. ⌜ r ≡ (so && eqb x y) ⌝ }
+{
+    if x == y { so } else { false }
 }
 
 // Whether these bytes are the name with this number. The number 0, and those past 16, name nothing.

@@ -5,7 +5,7 @@ use lib.Seq.{slice}
 use Rattle.cel_policy.specs.Names.{same, spelling}
 use Rattle.cel_policy.specs.Mapping.{bad, typed}
 use Rattle.ast_mapping.specs.View.{asKind, word, nodeAt, typedAt}
-use Rattle.ast_mapping.proofs.Same.{part-slice}
+use Rattle.ast_mapping.proofs.Names.{part-slice}
 use Rattle.ast_mapping.proofs.View.{room, few}
 use Rattle.ast_mapping.proofs.Steps.{NameAt, wrong-kind, right-kind}
 use Rattle.ast_mapping.proofs.mapping.validate_node.Statement.{statement}

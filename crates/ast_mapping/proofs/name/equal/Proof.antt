@@ -1,35 +1,38 @@
--- `name::equal` meets its contract: what is left of two texts of one length is the same exactly where the texts are, as long as no byte
--- passed differs. Assumes nothing.
+-- `name::equal` meets its contract: two texts of one length are the same exactly where the bytes passed are and what is left is. Assumes
+-- nothing.
 use mathlib.Core.Path.{_≡_, refl, sym, _∙_}
-use Prim.Native.Nat.{_-_, _≤_}
-use lib.ListN.{length, drop}
+use mathlib.Core.Bool.{_&&_}
+use Prim.Native.Nat.{suc, _-_, _≤_}
+use lib.ListN.{length, drop, getD}
+use lib.Dec.{eqb}
 use native.Mathlib.Numerals.{add-one}
 use Rattle.cel_policy.specs.Names.{same}
-use Rattle.ast_mapping.proofs.Same.{same-lengths, same-step, same-other, same-end}
+use Rattle.ast_mapping.proofs.Names.{same-lengths, same-step, same-end, and-assoc}
 use Rattle.ast_mapping.proofs.name.equal.Statement.{statement}
 use Rattle.ast_mapping.proofs.name.equal.Tie as tie
+use borrow.Author.Needs.{needs}
 use native.Mathlib.Omega.{arith}
 
 abbrev Inv-loop : tie.InvT-loop
-Inv-loop a b i₀ i = (i ≤ length a) × (length a ≡ length b) × (same a b ≡ same (drop i a) (drop i b))
+Inv-loop a b so₀ i₀ so i = (i ≤ length a) × (length a ≡ length b) × (same a b ≡ (so && same (drop i a) (drop i b)))
 
 abbrev μ-loop : tie.MeasureT-loop
-μ-loop a b i₀ i = length a - i
+μ-loop a b so₀ i₀ so i = length a - i
 
 returns : tie.Need-returns Inv-loop μ-loop
-returns c = sym (same-lengths (c .before .args .a .now) (c .before .args .b .now) (c .if1 .taken))
+returns c = sym (same-lengths (c .before .before .before .args .a .now) (c .before .before .before .args .b .now) (c .if1 .taken))
 
 loop-holds : tie.Need-loop-holds Inv-loop μ-loop
 loop-holds c = (omega arith, omega arith, refl)
 
-shared-slice-read-if2 : tie.Need-shared-slice-read-if2 Inv-loop μ-loop
-shared-slice-read-if2 c = omega arith
+shared-slice-read-still : tie.Need-shared-slice-read-still Inv-loop μ-loop
+shared-slice-read-still c = omega arith
 
-shared-slice-read-if2-2 : tie.Need-shared-slice-read-if2-2 Inv-loop μ-loop
-shared-slice-read-if2-2 c = omega arith
+shared-slice-read-still-2 : tie.Need-shared-slice-read-still-2 Inv-loop μ-loop
+shared-slice-read-still-2 c = omega arith
 
-returns-2 : tie.Need-returns-2 Inv-loop μ-loop
-returns-2 c = sym (c .before .before .before .before .loop .inv .2 ∙ same-other (c .before .before .before .before .before .before .args .a .now) (c .before .before .before .before .before .before .args .b .now) (c .before .before .before .before .loop .i) (omega arith) (omega arith) (c .if2 .taken))
+still-requires : tie.Need-still-requires Inv-loop μ-loop
+still-requires c κs = search needs
 
 add-i : tie.Need-add-i Inv-loop μ-loop
 add-i c = omega arith
@@ -38,10 +41,14 @@ loop-less : tie.Need-loop-less Inv-loop μ-loop
 loop-less c = omega arith
 
 loop-again : tie.Need-loop-again Inv-loop μ-loop
-loop-again c = (omega arith, omega arith, c .before .before .before .before .loop .inv .2 ∙ rw add-one (same-step (c .before .before .before .before .before .before .args .a .now) (c .before .before .before .before .before .before .args .b .now) (c .before .before .before .before .loop .i) (omega arith) (omega arith) (c .if2 .left)))
+loop-again c =
+    let x = c .before .before .before .before .before .before .before .before .args .a .now in
+    let y = c .before .before .before .before .before .before .before .before .args .b .now in
+    let i = c .before .before .before .before .loop .i in
+    (omega arith, omega arith, c .before .before .before .before .loop .inv .2 ∙ rw (add-one, same-step x y i (omega arith) (omega arith), c .still .ensures) (and-assoc (c .before .before .before .before .loop .so) (eqb (getD x i 0) (getD y i 0)) (same (drop (suc i) x) (drop (suc i) y))))
 
-returns-3 : tie.Need-returns-3 Inv-loop μ-loop
-returns-3 c = sym (c .before .loop .inv .2 ∙ same-end (c .before .before .before .args .a .now) (c .before .before .before .args .b .now) (c .before .loop .i) (omega arith) (omega arith))
+returns-2 : tie.Need-returns-2 Inv-loop μ-loop
+returns-2 c = sym (c .before .loop .inv .2 ∙ same-end (c .before .before .before .before .before .args .a .now) (c .before .before .before .before .before .args .b .now) (c .before .loop .i) (c .before .loop .so) (omega arith) (omega arith))
 
 pub equal-spec : {M : Type 1} → statement M
 equal-spec =
@@ -51,10 +58,10 @@ equal-spec =
     μ-loop
     returns
     loop-holds
-    shared-slice-read-if2
-    shared-slice-read-if2-2
-    returns-2
+    shared-slice-read-still
+    shared-slice-read-still-2
+    still-requires
     add-i
     loop-less
     loop-again
-    returns-3)
+    returns-2)
