@@ -19,7 +19,7 @@ use Rattle.cel_policy.specs.Answers.{placed, findPrint, sized, firstFault, span
 use Rattle.cel_policy.specs.Laws.Lengths.{length-printed}
 use Rattle.create_cel_expr.specs.Given.{Inside, AllInside, listed}
 use Rattle.create_cel_expr.specs.Over.{Wrote}
-use Rattle.create_cel_expr.specs.Judged.{Prints}
+use Rattle.create_cel_expr.specs.Judged.{Faultless, Prints}
 use Rattle.create_cel_expr.specs.Measure.{bytesOf, listOf, textOf, Ordered}
 use Rattle.create_cel_expr.proofs.Lists.{inside-part}
 use Rattle.create_cel_expr.proofs.Faults.{fits-inside, none-faulty, fault-below}
@@ -34,14 +34,15 @@ module _ (k : Counted) (ws : Words) (x : Text) (room : ℕ) where
     unfolding findPrint
     refused-21 i e = rw (ok, sym e)
 
-    module _ (inside : none ≡ firstFault (spanFits ws x) (stringCount k) 0) where
+    module _ (inside : firstFault (spanFits ws x) (stringCount k) 0 ≡ none) where
       pub refused-22 : (i : ℕ) → some i ≡ firstFault (bytesFit stringByte ws x) (stringCount k) 0 → findPrint stringByte k ws x room ≡ unprinted 22 i
       unfolding findPrint
-      refused-22 i e = rw (ok, sym inside, sym e)
+      refused-22 i e = rw (ok, inside, sym e)
 
-      pub passed-22 : none ≡ firstFault (bytesFit stringByte ws x) (stringCount k) 0 → findPrint stringByte k ws x room ≡ sized (printed (strings x (placed k ws))) room
-      unfolding findPrint
-      passed-22 e = rw (ok, sym inside, sym e)
+
+  passed-22 : Faultless k ws x → findPrint stringByte k ws x room ≡ sized (printed (strings x (placed k ws))) room
+  unfolding findPrint
+  passed-22 f = rw (f .shape, f .inside, f .plain)
 
 pub sized-23 : (t : Text) (room : ℕ) → 8192 < length t → sized t room ≡ unprinted 23 0
 unfolding sized
@@ -124,8 +125,8 @@ pub inside-ordered : (ws : Words) (x : Text) (n i : ℕ) → AllInside ws x n i 
 inside-ordered ws x n i h k lt = (h k lt .inTable, h k lt .ordered)
 
 -- where no span is faulty each lies inside
-pub all-inside : (ws : Words) (x : Text) (n : ℕ) → none ≡ firstFault (spanFits ws x) n 0 → AllInside ws x n 0
-all-inside ws x n e k lt = fits-inside ws x (0 + k) (none-faulty (spanFits ws x) n 0 (sym e) k lt)
+pub all-inside : (ws : Words) (x : Text) (n : ℕ) → firstFault (spanFits ws x) n 0 ≡ none → AllInside ws x n 0
+all-inside ws x n e k lt = fits-inside ws x (0 + k) (none-faulty (spanFits ws x) n 0 e k lt)
 
 -- once every string has passed, the measured length decides
 module _
@@ -133,9 +134,7 @@ module _
     (ws : Words)
     (x : Text)
     (room n : ℕ)
-    (ok : shaped k ≡ true)
-    (inside : none ≡ firstFault (spanFits ws x) (stringCount k) 0)
-    (plain : none ≡ firstFault (bytesFit stringByte ws x) (stringCount k) 0)
+    (f : Faultless k ws x)
     (measured : n ≡ min 8193 (textOf k ws))
   where
     text : Text
@@ -143,11 +142,11 @@ module _
 
     judged : findPrint stringByte k ws x room ≡ sized text room
     unfolding text
-    judged = passed-22 k ws x room ok inside plain
+    judged = passed-22 k ws x room f
 
     long : length text ≡ textOf k ws
     unfolding text
-    long = text-length k ws x (all-inside ws x (stringCount k) inside)
+    long = text-length k ws x (all-inside ws x (stringCount k) (f .inside))
 
     pub refused-23 : 8192 < n → findPrint stringByte k ws x room ≡ unprinted 23 0
     refused-23 h = judged ∙ sized-23 text room (omega (arith, measured, long))
@@ -163,7 +162,7 @@ module _
           long = omega (arith, measured, long);
           short = h;
           fits = r;
-          inside = all-inside ws x (stringCount k) inside;
+          inside = all-inside ws x (stringCount k) (f .inside);
         }
 
 -- a faulty string's index is small

@@ -7,12 +7,17 @@ ghost use Rattle.cel_policy.specs.Policy.{stringCount};
 ghost use Rattle.cel_policy.specs.Printed.{shaped};
 ghost use Rattle.cel_policy.specs.Answers.{spanFits, bytesFit, firstFault};
 ghost use Rattle.create_cel_expr.specs.Given.{numbers, Inside, AllInside};
-ghost use Rattle.create_cel_expr.specs.Judged.{faultOf, Judges};
+ghost use Rattle.create_cel_expr.specs.Judged.{faultOf, Faultless, Judges};
 use crate::FULL;
 use crate::MAX_TEXT;
+use crate::NO_STRING_BYTE;
+use crate::OUTPUT_TOO_SHORT;
+use crate::PRINTED_TOO_LONG;
 use crate::Policy;
 use crate::RESPONSE_ONLY;
 use crate::SKIP;
+use crate::SPAN_OUTSIDE;
+use crate::WRONG_SHAPE;
 use crate::measure;
 use crate::span;
 use parser::Place;
@@ -125,28 +130,36 @@ fn first_odd(text: &[u8], spans: &[u32], count: usize) -> Fault
     Fault::Nowhere
 }
 
-// All the checks, for an output of `room` bytes.
+// 23 and 24: whether the text of a policy without those faults is short enough, and fits an output of `room` bytes.
+pub(crate) fn fit(policy: Policy, text: &[u8], spans: &[u32], room: usize) -> Verdict
+    requires { ⌜ Faultless (numbers policy) (now spans) (now text) ⌝ }
+    ensures { λ r. ⌜ Judges (numbers policy) (now (spans .entry)) (now (text .entry)) room r ⌝ }
+{
+    let length = measure::printed_length(policy, spans);
+    if MAX_TEXT < length {
+        return Verdict::Refused(PRINTED_TOO_LONG, 0);
+    }
+    if room < length {
+        return Verdict::Refused(OUTPUT_TOO_SHORT, 0);
+    }
+    Verdict::Printable(length)
+}
+
+// All the checks.
 pub(crate) fn judge(policy: Policy, text: &[u8], spans: &[u32], room: usize) -> Verdict
     ensures { λ r. ⌜ Judges (numbers policy) (now (spans .entry)) (now (text .entry)) room r ⌝ }
 {
     if !shape(policy) {
-        return Verdict::Refused(20, 0);
+        return Verdict::Refused(WRONG_SHAPE, 0);
     }
     let count = policy.request as usize + policy.query as usize + policy.response as usize;
     let outside = first_outside(text, spans, count);
     if let Fault::At(i) = outside {
-        return Verdict::Refused(21, i);
+        return Verdict::Refused(SPAN_OUTSIDE, i);
     }
     let odd = first_odd(text, spans, count);
     if let Fault::At(i) = odd {
-        return Verdict::Refused(22, i);
+        return Verdict::Refused(NO_STRING_BYTE, i);
     }
-    let length = measure::printed_length(policy, spans);
-    if MAX_TEXT < length {
-        return Verdict::Refused(23, 0);
-    }
-    if room < length {
-        return Verdict::Refused(24, 0);
-    }
-    Verdict::Printable(length)
+    fit(policy, text, spans, room)
 }

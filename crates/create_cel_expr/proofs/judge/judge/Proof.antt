@@ -7,7 +7,7 @@ use Rattle.cel_policy.specs.Policy.{stringCount}
 use Rattle.cel_policy.specs.Answers.{spanFits, bytesFit}
 use Rattle.create_cel_expr.specs.Given.{numbers}
 use Rattle.create_cel_expr.specs.Judged.{faultOf}
-use Rattle.create_cel_expr.proofs.Verdicts.{refused-20, refused-21, refused-22, refused-23, refused-24, accepted, shaped-few, inside-ordered, all-inside, below}
+use Rattle.create_cel_expr.proofs.Verdicts.{refused-20, refused-21, refused-22, shaped-few, all-inside, below}
 use borrow.Author.Needs.{needs}
 use Rattle.create_cel_expr.proofs.judge.judge.Statement.{statement}
 use Rattle.create_cel_expr.proofs.judge.judge.Tie as tie
@@ -40,59 +40,34 @@ enum-known-outside : tie.Need-enum-known-outside
 enum-known-outside c = search needs
 
 returns-2 : tie.Need-returns-2
-returns-2 c = (
-  refused-21 (numbers (c .before .before .before .before .before .before .before .before .before .before .before .args .policy)) (c .before .before .before .before .before .before .before .before .before .before .before .args .spans .now) (c .before .before .before .before .before .before .before .before .before .before .before .args .text .now) (c .before .before .before .before .before .before .before .before .before .before .before .args .room) (sym (c .before .before .before .before .before .before .before .before .shape .ensures) ∙ not-false (c .before .before .before .before .before .before .before .before .shape .result) (c .before .before .before .before .before .before .before .if1 .left)) _
-      (ap faultOf (sym (c .before .outside .given .1)) ∙ c .before .before .before .first-outside .ensures),
-  below (spanFits (c .before .before .before .before .before .before .before .before .before .before .before .args .spans .now) (c .before .before .before .before .before .before .before .before .before .before .before .args .text .now)) (shaped-few (numbers (c .before .before .before .before .before .before .before .before .before .before .before .args .policy)) (sym (c .before .before .before .before .before .before .before .before .shape .ensures) ∙ not-false (c .before .before .before .before .before .before .before .before .shape .result) (c .before .before .before .before .before .before .before .if1 .left))) (ap faultOf (sym (c .before .outside .given .1)) ∙ c .before .before .before .first-outside .ensures),
-)
+returns-2 c =
+    let ok = sym (c .before .before .before .before .before .before .before .before .shape .ensures) ∙ not-false (c .before .before .before .before .before .before .before .before .shape .result) (c .before .before .before .before .before .before .before .if1 .left) in
+    let fault = ap faultOf (sym (c .before .outside .given .1)) ∙ c .before .before .before .first-outside .ensures in
+    (refused-21 (numbers (c .before .before .before .before .before .before .before .before .before .before .before .args .policy)) (c .before .before .before .before .before .before .before .before .before .before .before .args .spans .now) (c .before .before .before .before .before .before .before .before .before .before .before .args .text .now) (c .before .before .before .before .before .before .before .before .before .before .before .args .room) ok _ fault, below (spanFits (c .before .before .before .before .before .before .before .before .before .before .before .args .spans .now) (c .before .before .before .before .before .before .before .before .before .before .before .args .text .now)) (shaped-few (numbers (c .before .before .before .before .before .before .before .before .before .before .before .args .policy)) ok) fault)
 
 enum-told : tie.Need-enum-told
 enum-told c = search needs
 
 first-odd-requires : tie.Need-first-odd-requires
-first-odd-requires c κs = all-inside (c .before .before .before .before .before .before .before .before .before .before .args .spans .now) (c .before .before .before .before .before .before .before .before .before .before .args .text .now) (stringCount (numbers (c .before .before .before .before .before .before .before .before .before .before .args .policy))) (ap faultOf (sym (c .enum-told .given .1)) ∙ c .before .before .first-outside .ensures)
+first-odd-requires c κs = all-inside (c .before .before .before .before .before .before .before .before .before .before .args .spans .now) (c .before .before .before .before .before .before .before .before .before .before .args .text .now) (stringCount (numbers (c .before .before .before .before .before .before .before .before .before .before .args .policy))) (sym (c .before .before .first-outside .ensures) ∙ ap faultOf (c .enum-told .given .1))
 
 enum-known-odd : tie.Need-enum-known-odd
 enum-known-odd c = search needs
 
 returns-3 : tie.Need-returns-3
-returns-3 c = (
-  refused-22 (numbers (c .before .before .before .before .before .before .before .before .before .before .before .before .before .before .args .policy)) (c .before .before .before .before .before .before .before .before .before .before .before .before .before .before .args .spans .now) (c .before .before .before .before .before .before .before .before .before .before .before .before .before .before .args .text .now) (c .before .before .before .before .before .before .before .before .before .before .before .before .before .before .args .room) (sym (c .before .before .before .before .before .before .before .before .before .before .before .shape .ensures) ∙ not-false (c .before .before .before .before .before .before .before .before .before .before .before .shape .result) (c .before .before .before .before .before .before .before .before .before .before .if1 .left))
-      (ap faultOf (sym (c .before .before .before .before .enum-told .given .1)) ∙ c .before .before .before .before .before .before .first-outside .ensures) _ (ap faultOf (sym (c .before .odd .given .1)) ∙ c .before .before .before .first-odd .ensures),
-  below (bytesFit stringByte (c .before .before .before .before .before .before .before .before .before .before .before .before .before .before .args .spans .now) (c .before .before .before .before .before .before .before .before .before .before .before .before .before .before .args .text .now)) (shaped-few (numbers (c .before .before .before .before .before .before .before .before .before .before .before .before .before .before .args .policy)) (sym (c .before .before .before .before .before .before .before .before .before .before .before .shape .ensures) ∙ not-false (c .before .before .before .before .before .before .before .before .before .before .before .shape .result) (c .before .before .before .before .before .before .before .before .before .before .if1 .left))) (ap faultOf (sym (c .before .odd .given .1)) ∙ c .before .before .before .first-odd .ensures),
-)
+returns-3 c =
+    let ok = sym (c .before .before .before .before .before .before .before .before .before .before .before .shape .ensures) ∙ not-false (c .before .before .before .before .before .before .before .before .before .before .before .shape .result) (c .before .before .before .before .before .before .before .before .before .before .if1 .left) in
+    let fault = ap faultOf (sym (c .before .odd .given .1)) ∙ c .before .before .before .first-odd .ensures in
+    (refused-22 (numbers (c .before .before .before .before .before .before .before .before .before .before .before .before .before .before .args .policy)) (c .before .before .before .before .before .before .before .before .before .before .before .before .before .before .args .spans .now) (c .before .before .before .before .before .before .before .before .before .before .before .before .before .before .args .text .now) (c .before .before .before .before .before .before .before .before .before .before .before .before .before .before .args .room) ok (sym (c .before .before .before .before .before .before .first-outside .ensures) ∙ ap faultOf (c .before .before .before .before .enum-told .given .1)) _ fault, below (bytesFit stringByte (c .before .before .before .before .before .before .before .before .before .before .before .before .before .before .args .spans .now) (c .before .before .before .before .before .before .before .before .before .before .before .before .before .before .args .text .now)) (shaped-few (numbers (c .before .before .before .before .before .before .before .before .before .before .before .before .before .before .args .policy)) ok) fault)
 
 enum-told-2 : tie.Need-enum-told-2
 enum-told-2 c = search needs
 
-printed-length-requires : tie.Need-printed-length-requires
-printed-length-requires c κs = (
-  inside-ordered (c .before .before .before .before .before .before .before .before .before .before .before .before .before .args .spans .now) (c .before .before .before .before .before .before .before .before .before .before .before .before .before .args .text .now) (stringCount (numbers (c .before .before .before .before .before .before .before .before .before .before .before .before .before .args .policy))) 0
-      (all-inside (c .before .before .before .before .before .before .before .before .before .before .before .before .before .args .spans .now) (c .before .before .before .before .before .before .before .before .before .before .before .before .before .args .text .now) (stringCount (numbers (c .before .before .before .before .before .before .before .before .before .before .before .before .before .args .policy))) (ap faultOf (sym (c .before .before .before .enum-told .given .1)) ∙ c .before .before .before .before .before .first-outside .ensures)),
-  shaped-few (numbers (c .before .before .before .before .before .before .before .before .before .before .before .before .before .args .policy)) (sym (c .before .before .before .before .before .before .before .before .before .before .shape .ensures) ∙ not-false (c .before .before .before .before .before .before .before .before .before .before .shape .result) (c .before .before .before .before .before .before .before .before .before .if1 .left)),
-)
+fit-requires : tie.Need-fit-requires
+fit-requires c κs = record { shape = sym (c .before .before .before .before .before .before .before .before .before .before .shape .ensures) ∙ not-false (c .before .before .before .before .before .before .before .before .before .before .shape .result) (c .before .before .before .before .before .before .before .before .before .if1 .left); inside = sym (c .before .before .before .before .before .first-outside .ensures) ∙ ap faultOf (c .before .before .before .enum-told .given .1); plain = sym (c .before .before .first-odd .ensures) ∙ ap faultOf (c .enum-told2 .given .1) }
 
 returns-4 : tie.Need-returns-4
-returns-4 c = (
-  refused-23 (numbers (c .before .before .before .before .before .before .before .before .before .before .before .before .before .before .before .args .policy)) (c .before .before .before .before .before .before .before .before .before .before .before .before .before .before .before .args .spans .now) (c .before .before .before .before .before .before .before .before .before .before .before .before .before .before .before .args .text .now) (c .before .before .before .before .before .before .before .before .before .before .before .before .before .before .before .args .room) (c .before .printed-length .result)
-      (sym (c .before .before .before .before .before .before .before .before .before .before .before .before .shape .ensures) ∙ not-false (c .before .before .before .before .before .before .before .before .before .before .before .before .shape .result) (c .before .before .before .before .before .before .before .before .before .before .before .if1 .left)) (ap faultOf (sym (c .before .before .before .before .before .enum-told .given .1)) ∙ c .before .before .before .before .before .before .before .first-outside .ensures)
-      (ap faultOf (sym (c .before .before .enum-told2 .given .1)) ∙ c .before .before .before .before .first-odd .ensures) (c .before .printed-length .ensures) (c .if2 .taken),
-  omega arith,
-)
-
-returns-5 : tie.Need-returns-5
-returns-5 c = (
-  refused-24 (numbers (c .before .before .before .before .before .before .before .before .before .before .before .before .before .before .before .before .args .policy)) (c .before .before .before .before .before .before .before .before .before .before .before .before .before .before .before .before .args .spans .now) (c .before .before .before .before .before .before .before .before .before .before .before .before .before .before .before .before .args .text .now) (c .before .before .before .before .before .before .before .before .before .before .before .before .before .before .before .before .args .room) (c .before .before .printed-length .result)
-      (sym (c .before .before .before .before .before .before .before .before .before .before .before .before .before .shape .ensures) ∙ not-false (c .before .before .before .before .before .before .before .before .before .before .before .before .before .shape .result) (c .before .before .before .before .before .before .before .before .before .before .before .before .if1 .left)) (ap faultOf (sym (c .before .before .before .before .before .before .enum-told .given .1)) ∙ c .before .before .before .before .before .before .before .before .first-outside .ensures)
-      (ap faultOf (sym (c .before .before .before .enum-told2 .given .1)) ∙ c .before .before .before .before .before .first-odd .ensures) (c .before .before .printed-length .ensures) (c .before .if2 .left) (c .if3 .taken),
-  omega arith,
-)
-
-returns-6 : tie.Need-returns-6
-returns-6 c =
-    accepted (numbers (c .before .before .before .before .before .before .before .before .before .before .before .before .before .before .before .before .args .policy)) (c .before .before .before .before .before .before .before .before .before .before .before .before .before .before .before .before .args .spans .now) (c .before .before .before .before .before .before .before .before .before .before .before .before .before .before .before .before .args .text .now) (c .before .before .before .before .before .before .before .before .before .before .before .before .before .before .before .before .args .room) (c .before .before .printed-length .result)
-    (sym (c .before .before .before .before .before .before .before .before .before .before .before .before .before .shape .ensures) ∙ not-false (c .before .before .before .before .before .before .before .before .before .before .before .before .before .shape .result) (c .before .before .before .before .before .before .before .before .before .before .before .before .if1 .left)) (ap faultOf (sym (c .before .before .before .before .before .before .enum-told .given .1)) ∙ c .before .before .before .before .before .before .before .before .first-outside .ensures)
-    (ap faultOf (sym (c .before .before .before .enum-told2 .given .1)) ∙ c .before .before .before .before .before .first-odd .ensures) (c .before .before .printed-length .ensures) (c .before .if2 .left) (c .if3 .left)
+returns-4 c = c .fit .ensures
 
 pub judge-spec : {M : Type 1} → statement M
 judge-spec =
@@ -113,7 +88,5 @@ judge-spec =
     enum-known-odd
     returns-3
     enum-told-2
-    printed-length-requires
-    returns-4
-    returns-5
-    returns-6)
+    fit-requires
+    returns-4)
