@@ -59,10 +59,3 @@ pub spelling-none : (name : ℕ) → NoneOf 16 name → spelling name ≡ []
 unfolding spelling
 spelling-none zero h = refl
 spelling-none (suc n) h = List·getD-eq-default spellings [] (past 16 (suc n) h (omega arith))
-
--- a part that is lent, as its ends say it
-pub part-slice : (from to : ℕ) (x : Text) → take (to - from) (drop from x) ≡ slice from to x
-part-slice zero to x = rw sub-zero
-part-slice (suc from) zero x = rw zero-sub
-part-slice (suc from) (suc to) [] = take-nil (suc to - suc from)
-part-slice (suc from) (suc to) (b ∷ x) = rw suc-sub-suc (part-slice from to x)

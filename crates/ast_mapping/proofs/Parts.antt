@@ -27,10 +27,8 @@ use Rattle.ast_mapping.specs.declared.mapping.Request.the-variants as pa
 use Rattle.ast_mapping.specs.declared.mapping.Mapped.{Mapped as Told-policy}
 use Rattle.ast_mapping.specs.declared.mapping.Mapped.the-variants as policy
 use Rattle.parser.specs.declared.Node.{Node as Numbered}
+use Rattle.cel_text.specs.Laws.Limit.{clash}
 use Rattle.ast_mapping.proofs.View.{Begins, all, less, begins-none, later, Child, next-child, last-child}
-
-clash : {A : Type 0} → _≡_ {A = ℕ} 0 1 → A
-clash e = absurd (omega arith)
 
 -- ---- exactly one
 

@@ -23,12 +23,13 @@ use Rattle.cel_policy.specs.Answers.{unread, judged, mapTree, findPolicy, Polic
 use Rattle.cel_policy.specs.Laws.Shape.{Shape, skips, certifies}
 use Rattle.cel_policy.specs.Laws.Counts.{size, Meets, meets-mapping}
 use Rattle.parser.specs.Found.{told}
+use Rattle.create_cel_expr.specs.declared.Policy.{Policy as Numbers}
+use Rattle.create_cel_expr.specs.Given.{numbers as given}
 use Rattle.parser.specs.declared.Answer.{Answer}
 use Rattle.parser.proofs.Answers.{clearedFrom, hold-front}
 use Rattle.ast_mapping.specs.declared.PolicyAnswer.{PolicyAnswer as Told-answer}
-use Rattle.ast_mapping.specs.declared.Policy.{Policy as Numbers}
 use Rattle.ast_mapping.specs.View.{nodeAt, Held}
-use Rattle.ast_mapping.specs.Spans.{policyTold, policyAs, strings, numbers, few, spareFrom, Refusing, settledAnswer, settledSpans, Settled}
+use Rattle.ast_mapping.specs.Spans.{policyTold, strings, numbers, few, spareFrom, Refusing, settledAnswer, settledSpans, Settled}
 use Rattle.ast_mapping.proofs.Written.{Rooted, rooted}
 
 -- ---- what reading a tree can find
@@ -132,7 +133,7 @@ module _ (x : Text) (nodes spans : Words) where
     module _ (a : Answer) (nodes′ : Words) (e : told a ≡ treeAnswer (length nodes) x) (k : nodes′ ≡ treeTable x nodes) where
       -- a refusal of 1 to 6
       refused-reads : (f : Found) → Right (length nodes) x f → told a ≡ answered f → nodes′ ≡ nodesAfter f nodes → (a .refusal ≡ 0 → ⊥)
-          → (p : Numbers) → policyAs p ≡ noPolicy → (part : Words) → part ≡ clearedFrom (take spanWords spans) (spareFrom (a .refusal) 0)
+          → (p : Numbers) → given p ≡ noPolicy → (part : Words) → part ≡ clearedFrom (take spanWords spans) (spareFrom (a .refusal) 0)
           → Reads x f nodes spans nodes′ (part ++ drop spanWords spans) (record { answer = a; policy = p })
       refused-reads (tree t q) h e k z p n part c = absurd (z (ap (λ (b : TreeAnswer). b .refusal) e))
       refused-reads (fault r j) h e k z p n part c =
@@ -145,7 +146,7 @@ module _ (x : Text) (nodes spans : Words) where
             strings = ap (λ (l : Words). l ++ drop spanWords spans) front ∙ hold-front (spansLeft r) spanWords [] spans long;
           }
 
-      pub ensured-refused : (a .refusal ≡ 0 → ⊥) → (p : Numbers) → policyAs p ≡ noPolicy → (part : Words)
+      pub ensured-refused : (a .refusal ≡ 0 → ⊥) → (p : Numbers) → given p ≡ noPolicy → (part : Words)
           → part ≡ clearedFrom (take spanWords spans) (spareFrom (a .refusal) 0) → Ensured nodes′ (part ++ drop spanWords spans) (record { answer = a; policy = p })
       unfolding treeAnswer treeTable
       ensured-refused z p n part c = ensured (refused-reads (findTree stringByte (length nodes) x) (right (length nodes) x) e k z p n part c)

@@ -11,18 +11,19 @@ use Rattle.cel_text.specs.Answer.{Answer as TreeAnswer}
 use Rattle.cel_policy.specs.Policy.{Span, Policy, stringCount, allStrings}
 use Rattle.cel_policy.specs.Mapping.{Mapped, good, bad}
 use Rattle.cel_policy.specs.Spans.{spanRows, spanTable, spanWords}
-use Rattle.cel_policy.specs.Laws.SpanTable.{length-spanRows}
+use Rattle.cel_policy.specs.Laws.SpanTable.{spanRows-append, length-spanRows}
 use Rattle.parser.specs.Found.{told}
+use Rattle.create_cel_expr.specs.declared.Policy.{Policy as Numbers}
+use Rattle.create_cel_expr.specs.Given.{numbers as given}
 use Rattle.parser.specs.declared.Answer.{Answer}
 use Rattle.parser.specs.declared.Node.{Node as Numbered}
 use Rattle.parser.proofs.Rows.{sets-append}
 use Rattle.parser.proofs.Answers.{clearedFrom}
 use Rattle.ast_mapping.specs.declared.mapping.Mapped.{Mapped as Told-policy}
 use Rattle.ast_mapping.specs.declared.mapping.Mapped.the-variants.{Skip, ResponseOnly, Full, Refused}
-use Rattle.ast_mapping.specs.declared.Policy.{Policy as Numbers}
 use Rattle.ast_mapping.specs.View.{word, spanOf, spansFrom, stringsOf}
 use Rattle.ast_mapping.specs.Steps.{mappedAs}
-use Rattle.ast_mapping.specs.Spans.{PutList, policyAs, strings, numbers, few, Put, spareFrom, Refusing, answerAs, settledAnswer, settledSpans, Settled}
+use Rattle.ast_mapping.specs.Spans.{PutList, strings, numbers, few, Put, spareFrom, Refusing, answerAs, settledAnswer, settledSpans, Settled}
 
 pub length-spansFrom : (w : Words) (m n : ℕ) → length (spansFrom w n m) ≡ m
 length-spansFrom w zero n = refl
@@ -48,14 +49,10 @@ put-none w s next end at h = let none : end - next ≡ 0 = omega arith in rw non
 
 -- ---- the three lists
 
-span-append : (a b : List Span) → spanRows (a ++ b) ≡ spanRows a ++ spanRows b
-span-append [] b = refl
-span-append (s ∷ a) b = ap (λ (l : Words). s .from ∷ s .to ∷ l) (span-append a b)
-
 put-more : (s : Words) (from : ℕ) (a b : List Span) → sets (sets s (2 * from) (spanRows a)) (2 * (from + length a)) (spanRows b) ≡ sets s (2 * from) (spanRows (a ++ b))
 put-more s from a b =
     let place : 2 * from + length (spanRows a) ≡ 2 * (from + length a) = omega (arith, length-spanRows a) in
-    rw (span-append a b, sym place) (sym (sets-append (spanRows a) (spanRows b) s (2 * from)))
+    rw (spanRows-append a b, sym place) (sym (sets-append (spanRows a) (spanRows b) s (2 * from)))
 
 module _ (w : Words) (h q l : Numbered) (kind : ℕ) (s s₁ s₂ s₃ : Words) (a b c : ℕ) where
   pub put-lists : PutList w (h .0) s s₁ 0 a → PutList w (q .0) s₁ s₂ a b → PutList w (l .0) s₂ s₃ b c
@@ -82,7 +79,7 @@ answer-as w a (ResponseOnly kind l) = refl
 answer-as w a (Full h q kind l) = refl
 answer-as w a (Refused r) = refl
 
-pub count-of : (m : Mapped (Policy Span)) (p : Numbers) → policyAs p ≡ numbers m → p .request + p .query + p .response ≡ length (strings m)
+pub count-of : (m : Mapped (Policy Span)) (p : Numbers) → given p ≡ numbers m → p .request + p .query + p .response ≡ length (strings m)
 count-of m p e = ap stringCount e ∙ all m
   where
     all : (m : Mapped (Policy Span)) → stringCount (numbers m) ≡ length (strings m)

@@ -16,7 +16,8 @@ use Rattle.cel_text.specs.Table.{Words, stringKind, kindNumber}
 use Rattle.cel_policy.specs.Policy.{Span}
 use Rattle.cel_policy.specs.Mapping.{Node, leaf, branch, Nodes, childless, _▹_∶_}
 use Rattle.cel_policy.specs.Laws.Counts.{size, sizes}
-use Rattle.ast_mapping.specs.View.{word, spanOf, asKind, nodeFrom, nodesFrom, nodeAt, number, children, Row, Part, Stands, StandAll, Held}
+use Rattle.parser.specs.Kinds.{kindOf}
+use Rattle.ast_mapping.specs.View.{word, spanOf, nodeFrom, nodesFrom, nodeAt, number, children, Row, Part, Stands, StandAll, Held}
 
 size-positive : (m : Node Span) → 0 < size m
 size-positive (leaf n a) = lit< tt
@@ -53,10 +54,10 @@ no-string array = refl
 no-string object = refl
 no-string function = refl
 
-asKind-number : (c : Kind) → asKind (kindNumber c) ≡ c
-asKind-number array = refl
-asKind-number object = refl
-asKind-number function = refl
+kindOf-number : (c : Kind) → kindOf (kindNumber c) ≡ c
+kindOf-number array = refl
+kindOf-number object = refl
+kindOf-number function = refl
 
 module _ (w : Words) (x : Text) where
   stand-begin : {ns b : Nodes Span} (n : ℕ) → Begins ns b → StandAll ns w x n → StandAll b w x n
@@ -82,7 +83,7 @@ module _ (w : Words) (x : Text) where
     decode (suc f) (branch n c name ns) h l =
         let kids : nodesFrom f w x (suc n) (suc n + sizes ns) childless ≡ ns
         = rw (add-zero (suc n)) at (decodeAll f ns childless (begins-none ns) (suc n) (h .2) (omega arith)) in
-        rw (h .0 .kind, no-string c, asKind-number c, h .1 .is, h .0 .past, kids)
+        rw (h .0 .kind, no-string c, kindOf-number c, h .1 .is, h .0 .past, kids)
 
     decodeAll : (f : ℕ) (ns b : Nodes Span) → Begins ns b → (n : ℕ) → StandAll ns w x n → 2 * sizes ns ≤ f + 2 * sizes b
         → nodesFrom f w x (n + sizes b) (n + sizes ns) b ≡ ns

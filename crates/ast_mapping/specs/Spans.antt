@@ -13,10 +13,11 @@ use Rattle.cel_policy.specs.Mapping.{Mapped, good, bad}
 use Rattle.cel_policy.specs.Spans.{spanRows, spanTable, spanWords}
 use Rattle.cel_policy.specs.Answers.{PolicyAnswer}
 use Rattle.parser.specs.Found.{told}
+use Rattle.create_cel_expr.specs.declared.Policy.{Policy as Numbers}
+use Rattle.create_cel_expr.specs.Given.{numbers as given}
 use Rattle.parser.specs.declared.Answer.{Answer as Tree-answer}
 use Rattle.ast_mapping.specs.declared.mapping.Mapped.{Mapped as Told-policy}
 use Rattle.ast_mapping.specs.declared.mapping.Mapped.the-variants.{Skip, ResponseOnly, Full, Refused}
-use Rattle.ast_mapping.specs.declared.Policy.{Policy as Numbers}
 use Rattle.ast_mapping.specs.declared.PolicyAnswer.{PolicyAnswer as Told-answer}
 use Rattle.ast_mapping.specs.View.{stringsOf}
 
@@ -25,12 +26,9 @@ pub record PutList (w : Words) (n : ℕ) (s s′ : Words) (from to : ℕ) : Type
   pub rows : s′ ≡ sets s (2 * from) (spanRows (stringsOf w n))
   pub count : to ≡ from + length (stringsOf w n)
 
--- the structs that the program answers, in document 01's numbers
-abbrev pub policyAs : Numbers → Counted
-policyAs p = record { form = p .form; kind = p .kind; requestHeaders = p .request; queryParameters = p .query; responseHeaders = p .response }
-
+-- the struct that the program answers, in document 01's numbers
 abbrev pub policyTold : Told-answer → PolicyAnswer
-policyTold r = record { answer = told (r .answer); policy = policyAs (r .policy) }
+policyTold r = record { answer = told (r .answer); policy = given (r .policy) }
 
 -- what a mapping's outcome has: strings, and the policy's numbers
 abbrev pub strings : Mapped (Policy Span) → List Span
@@ -47,7 +45,7 @@ few s l = (2 * length l ≤ length s) × (length l ≤ 256)
 
 pub record Put (m : Mapped (Policy Span)) (s s′ : Words) (r : Numbers) : Type 0 where
   pub rows : s′ ≡ sets s 0 (spanRows (strings m))
-  pub counts : policyAs r ≡ numbers m
+  pub counts : given r ≡ numbers m
 
 -- the first of the counted words that a read with this refusal leaves 0
 abbrev pub spareFrom : (refusal strings : ℕ) → ℕ
@@ -75,5 +73,5 @@ settledSpans (bad r) s = hold cleared spanWords [] s
 
 pub record Settled (m : Mapped (Policy Span)) (tree : Tree-answer) (s s′ : Words) (r : Told-answer) : Type 0 where
   pub answer : told (r .answer) ≡ settledAnswer (told tree) m
-  pub counts : policyAs (r .policy) ≡ numbers m
+  pub counts : given (r .policy) ≡ numbers m
   pub spans : s′ ≡ settledSpans m s

@@ -9,7 +9,8 @@ use Rattle.cel_text.specs.Byte.{Text}
 use Rattle.cel_text.specs.Table.{Words}
 use Rattle.cel_policy.specs.Policy.{Span, Policy, responseOnly, full, inclusions, exclusions}
 use Rattle.cel_policy.specs.Mapping.{Refusal, Mapped, good, bad, Typed, Request, Only, first, second, typed, lookup, stringArray, listAt, skipped}
-use Rattle.ast_mapping.specs.View.{asKind, nodeAt, children, typedAt, stringsOf, Held, Tabled}
+use Rattle.parser.specs.Kinds.{kindOf}
+use Rattle.ast_mapping.specs.View.{nodeAt, children, typedAt, stringsOf, Held, Tabled}
 use Rattle.ast_mapping.specs.declared.row.Found.{Found}
 use Rattle.ast_mapping.specs.declared.row.Found.the-variants.{At, Nothing}
 use Rattle.ast_mapping.specs.declared.mapping.Refusal.{Refusal as Told}
@@ -63,7 +64,7 @@ checkAs b check.Right = good b
 checkAs b (check.Refused r) = bad (told r)
 
 abbrev pub Checked : Words → Text → (n kind name : ℕ) → Check → Type 0
-Checked w x n kind name r = checkAs (typedAt w x n) r ≡ typed (asKind kind) name (nodeAt w x n)
+Checked w x n kind name r = checkAs (typedAt w x n) r ≡ typed (kindOf kind) name (nodeAt w x n)
 
 abbrev pub ListChecked : Words → (n name : ℕ) → Check → Type 0
 ListChecked w n name r = (x : Text) → Held w x n → checkAs (stringsOf w n) r ≡ stringArray name (nodeAt w x n)

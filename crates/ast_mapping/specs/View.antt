@@ -8,11 +8,11 @@ use lib.ListN.{length, getD}
 use lib.Seq.{slice}
 use lib.Dec.{eqb, ltb}
 use Rattle.cel_text.specs.Byte.{Text}
-use Rattle.cel_text.specs.Tree.{Kind, array, object, function}
 use Rattle.cel_text.specs.Reading.{maxNodes}
 use Rattle.cel_text.specs.Table.{Words, stringKind, kindNumber}
 use Rattle.cel_policy.specs.Policy.{Span}
 use Rattle.cel_policy.specs.Mapping.{Node, leaf, branch, Nodes, childless, _▹_∶_, Typed}
+use Rattle.parser.specs.Kinds.{kindOf}
 use Rattle.cel_policy.specs.Laws.Counts.{size, sizes}
 
 -- word i of the row of node n
@@ -32,9 +32,6 @@ spansFrom w n (suc m) = spanOf w n ∷ spansFrom w (suc n) m
 abbrev pub stringsOf : Words → ℕ → List Span
 stringsOf w n = spansFrom w (suc n) (word w n 7 - suc n)
 
-abbrev pub asKind : ℕ → Kind
-asKind k = cond (eqb k 2) array (cond (eqb k 3) object function)
-
 -- at most f steps are made, a step for each node and for each child
 abbrev mutual
   pub nodeFrom : (f : ℕ) → Words → Text → (n : ℕ) → Node Span
@@ -42,7 +39,7 @@ abbrev mutual
   nodeFrom (suc f) w x n =
       cond (eqb (word w n 0) stringKind)
       (leaf n (spanOf w n))
-      (branch n (asKind (word w n 0)) (slice (word w n 1) (word w n 2) x) (nodesFrom f w x (suc n) (word w n 7) childless))
+      (branch n (kindOf (word w n 0)) (slice (word w n 1) (word w n 2) x) (nodesFrom f w x (suc n) (word w n 7) childless))
 
   -- the children `before`, and those from number n on, up to number `end`
   pub nodesFrom : (f : ℕ) → Words → Text → (n end : ℕ) → Nodes Span → Nodes Span

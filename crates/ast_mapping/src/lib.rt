@@ -6,20 +6,12 @@ pub mod name;
 mod row;
 mod span;
 
+use create_cel_expr::Policy;
 use parser::Answer;
 ghost use mathlib.Core.Path.{_≡_};
 ghost use lib.ListN.{length};
 ghost use Rattle.cel_policy.specs.Answers.{unread, policyAnswered, policyAnswer, policyNodes, policySpans};
 ghost use Rattle.ast_mapping.specs.Spans.{policyTold};
-
-// A policy as numbers: form, list kind, and how many strings each list has.
-pub struct Policy {
-    pub form: u32,
-    pub kind: u32,
-    pub request: u32,
-    pub query: u32,
-    pub response: u32,
-}
 
 // Document 01's answer of reading a policy.
 pub struct PolicyAnswer {
@@ -28,17 +20,6 @@ pub struct PolicyAnswer {
 }
 
 pub const SPAN_WORDS: usize = 512;
-
-// The forms, and the kinds of the response list; 0 is none.
-pub const SKIP: u32 = 1;
-
-pub const RESPONSE_ONLY: u32 = 2;
-
-pub const FULL: u32 = 3;
-
-pub const INCLUSIONS: u32 = 1;
-
-pub const EXCLUSIONS: u32 = 2;
 
 // Reads the text and maps its tree. Where a table is too short neither is touched; of longer ones the first 2,048 and 512 words count.
 pub fn read_policy(text: &[u8], nodes: &mut [u32], spans: &mut [u32]) -> PolicyAnswer
@@ -68,19 +49,13 @@ fn too_short() -> PolicyAnswer
 {
     PolicyAnswer {
         answer: Answer {
-            refusal: 1,
+            refusal: parser::TABLE_TOO_SHORT,
             name: 0,
             kind: 0,
             place: 0,
             nodes: 0,
             depth: 0,
         },
-        policy: Policy {
-            form: 0,
-            kind: 0,
-            request: 0,
-            query: 0,
-            response: 0,
-        },
+        policy: span::no_policy(),
     }
 }

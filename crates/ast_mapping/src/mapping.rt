@@ -4,10 +4,9 @@ ghost use Prim.Native.Nat.{_+_, _≤_, _<_};
 ghost use Rattle.cel_text.specs.Table.{kindNumber};
 ghost use Rattle.cel_text.specs.Tree.{object};
 ghost use Rattle.cel_policy.specs.Mapping.{andThen, typed, lookup, exactlyOne, requestLists, requestPart, listOf, responsePart, certificationParts, validationArgs, mapping};
-ghost use Rattle.ast_mapping.specs.View.{asKind, nodeAt, children, typedAt, Held, Tabled};
+ghost use Rattle.parser.specs.Kinds.{kindOf};
+ghost use Rattle.ast_mapping.specs.View.{nodeAt, children, typedAt, Held, Tabled};
 ghost use Rattle.ast_mapping.specs.Steps.{told, uses, foundAs, numbered, onlyAs, Checked, ListChecked, Listing, Requested, Headed, Responded, certifiedAs, Maps};
-use crate::EXCLUSIONS;
-use crate::INCLUSIONS;
 use crate::name;
 use crate::name::CERTIFICATION;
 use crate::name::CERTIFICATION_OBJECT;
@@ -27,6 +26,8 @@ use crate::name::RESPONSE_HEADER_LIST;
 use crate::name::VALIDATION_ARGS;
 use crate::row;
 use crate::row::Found;
+use create_cel_expr::EXCLUSIONS;
+use create_cel_expr::INCLUSIONS;
 use parser::ARRAY;
 use parser::FUNCTION;
 use parser::Node;
@@ -112,7 +113,7 @@ fn refused(refusal: u32, name: u32, kind: u32, node: Node) -> Refusal
 // A node of this kind with this name. Its kind comes before its name.
 fn validate_node(text: &[u8], table: &[u32], node: Node, kind: u32, name: u32) -> Check
     requires { ⌜ Held (now table) (now text) (node .0) ⌝ }
-    requires { ⌜ kindNumber (asKind kind) ≡ kind ⌝ }
+    requires { ⌜ kindNumber (kindOf kind) ≡ kind ⌝ }
     ensures { λ r. ⌜ Checked (now (table .entry)) (now (text .entry)) (node .0) kind name r ⌝ }
 {
     if row::word(table, node, row::KIND) != kind as usize {

@@ -6,6 +6,7 @@ ghost use Rattle.ast_mapping.specs.View.{word, Held};
 ghost use Rattle.ast_mapping.specs.Steps.{Looked};
 use crate::name;
 use parser::Node;
+use parser::ROW_WORDS;
 
 // Which words of a row the mapping looks at.
 pub(crate) const KIND: usize = 0;
@@ -30,7 +31,7 @@ pub(crate) fn word(table: &[u32], node: Node, i: usize) -> usize
     requires { ⌜ (8 * (node .0) + 8 ≤ length (now table)) × (i < 8) ⌝ }
     ensures { λ r. ⌜ r ≡ word (now (table .entry)) (node .0) i ⌝ }
 {
-    let at = 8 * node.0 + i;
+    let at = ROW_WORDS * node.0 + i;
     table[at] as usize
 }
 

@@ -4,20 +4,22 @@ ghost use Prim.Native.Nat.{_+_, _*_, _≤_};
 ghost use lib.ListN.{length};
 ghost use Rattle.cel_policy.specs.Policy.{noPolicy};
 ghost use Rattle.parser.specs.Found.{told};
+ghost use Rattle.create_cel_expr.specs.Given.{numbers as given};
 ghost use Rattle.ast_mapping.specs.declared.mapping.Mapped.the-variants.{ResponseOnly, Full};
 ghost use Rattle.ast_mapping.specs.View.{stringsOf, Tabled};
 ghost use Rattle.ast_mapping.specs.Steps.{mappedAs, MappedIn};
-ghost use Rattle.ast_mapping.specs.Spans.{PutList, Put, policyAs, strings, few, spareFrom, answerAs, Refusing, Settled};
-use crate::FULL;
-use crate::Policy;
+ghost use Rattle.ast_mapping.specs.Spans.{PutList, Put, strings, few, spareFrom, answerAs, Refusing, Settled};
 use crate::PolicyAnswer;
-use crate::RESPONSE_ONLY;
-use crate::SKIP;
 use crate::SPAN_WORDS;
 use crate::mapping::Mapped;
 use crate::row;
+use create_cel_expr::FULL;
+use create_cel_expr::Policy;
+use create_cel_expr::RESPONSE_ONLY;
+use create_cel_expr::SKIP;
 use parser::Answer;
 use parser::Node;
+use parser::ROW_WORDS;
 
 // Writes the strings of a list, the first as string `from`, and answers the number of the string after them.
 fn put_list(table: &[u32], list: Node, spans: &mut [u32], from: usize) -> usize
@@ -29,8 +31,8 @@ fn put_list(table: &[u32], list: Node, spans: &mut [u32], from: usize) -> usize
     let mut next = list.0 + 1;
     let mut at = from;
     while next < end {
-        spans[2 * at] = table[8 * next + 1];
-        spans[2 * at + 1] = table[8 * next + 2];
+        spans[2 * at] = table[ROW_WORDS * next + row::FROM];
+        spans[2 * at + 1] = table[ROW_WORDS * next + row::TO];
         next += 1;
         at += 1;
     }
@@ -39,7 +41,7 @@ fn put_list(table: &[u32], list: Node, spans: &mut [u32], from: usize) -> usize
 
 // The policy without a form: nothing was accepted.
 pub(crate) fn no_policy() -> Policy
-    ensures { λ r. ⌜ policyAs r ≡ noPolicy ⌝ }
+    ensures { λ r. ⌜ given r ≡ noPolicy ⌝ }
 {
     Policy {
         form: 0,

@@ -1,6 +1,7 @@
 -- From what was read and printed to the host's number and output. Assumes nothing.
 use mathlib.Core.Path.{_≡_, refl, sym, ap, subst, _∙_}
 use Prim.Native.Nat.{ℕ, _+_, _≤_}
+use mathlib.Core.List.{[]}
 use lib.ListN.{length, replicate}
 use lib.Dec.{lit≤}
 use native.Mathlib.Omega.{arith}
@@ -10,6 +11,9 @@ use Rattle.cel_policy.specs.Policy.{Counted}
 use Rattle.cel_policy.specs.Mapping.{nodeOf}
 use Rattle.cel_policy.specs.Spans.{spanWords}
 use Rattle.cel_policy.specs.Answers.{FoundPolicy, policy, unmapped, unread, PolicyAnswer, policyAnswered, policyAnswer, policySpans, spansHeld, findPolicy, Printing, written, unprinted, findPrint, PrintAnswer, printAnswered, printAnswer, printOutput, output, reprinted, findCanonical, oneNumber, refusalBase, canonicalAnswer, canonicalOutput}
+use Rattle.cel_policy.specs.Laws.Readable.{readable}
+use Rattle.cel_policy.specs.Laws.SpanTable.{read-shaped, read-inside, read-plain}
+use Rattle.create_cel_expr.specs.Judged.{Faultless}
 use Rattle.cel_policy.specs.Laws.Refusals.{Gives, OfPrint, print-gives, findPolicy-cases, faultNumber-range, refusal-range, policy-refusals}
 
 module _ (x : Text) (room : ℕ) where
@@ -31,6 +35,19 @@ module _ (x : Text) (room : ℕ) where
       IfRead : FoundPolicy → Type 0
       IfRead f = policyAnswered f .answer .refusal ≡ 0 → reprinted stringByte f x room ≡ findPrint stringByte (policyAnswered f .policy) (spansHeld f (replicate spanWords 0)) x room
 
+  -- print finds no fault in what was read
+  faultless-found : policyAnswered found .answer .refusal ≡ 0 → Faultless (policyAnswered found .policy) (spansHeld found (replicate spanWords 0)) x
+  unfolding found
+  faultless-found =
+      findPolicy-cases stringByte nodeWords spanWords x IfRead (λ a e. absurd (omega arith)) (λ e. absurd (omega arith)) (λ p e. absurd (omega arith))
+      (λ f p e. absurd (omega (arith, faultNumber-range f))) (λ t r m e. absurd (omega (arith, refusal-range (nodeOf x t 0) r m)))
+      (λ t q p r m e.
+      let h = readable stringByte x t q p r m in
+      record { shape = read-shaped stringByte x p h []; inside = read-inside stringByte x p h _; plain = read-plain stringByte x p h _ })
+    where
+      IfRead : FoundPolicy → Type 0
+      IfRead f = policyAnswered f .answer .refusal ≡ 0 → Faultless (policyAnswered f .policy) (spansHeld f (replicate spanWords 0)) x
+
   canonical-is : canonicalAnswer x room ≡ oneNumber (reprinted stringByte found x room)
   unfolding canonicalAnswer findCanonical found
   canonical-is = refl
@@ -45,6 +62,10 @@ module _ (x : Text) (room : ℕ) where
     canonical-prints : findCanonical stringByte x room ≡ findPrint stringByte k (policySpans x (replicate nodeWords 0) (replicate spanWords 0)) x room
     unfolding findCanonical policyAnswer policySpans found
     canonical-prints = printed-found isRead ∙ ap (λ (c : Counted). findPrint stringByte c (spansHeld found (replicate spanWords 0)) x room) isPolicy
+
+    pub faultless-read : Faultless k (policySpans x (replicate nodeWords 0) (replicate spanWords 0)) x
+    unfolding policyAnswer policySpans found
+    faultless-read = subst (λ (c : Counted). Faultless c (spansHeld found (replicate spanWords 0)) x) isPolicy (faultless-found isRead)
 
     one-length : (w : Printing) → Gives OfPrint w → printAnswered w .refusal ≡ 0 → printAnswered w .length ≡ oneNumber w
     one-length (written t) g e = refl

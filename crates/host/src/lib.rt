@@ -1,6 +1,5 @@
 // The host's entry: a text is read as a policy and the policy is printed, over tables of its own. One number answers: the printed
 // length, or 65,536 plus the refusal. Its contract cites the definitions of `cel_policy`, for every text and every output.
-use create_cel_expr::Policy;
 ghost use mathlib.Core.Path.{_≡_};
 ghost use lib.ListN.{length};
 ghost use Rattle.cel_policy.specs.Answers.{canonicalAnswer, canonicalOutput};
@@ -19,15 +18,7 @@ pub fn canonicalise(text: &[u8], out: &mut [u8]) -> u32
     if answer.refusal != 0 {
         return REFUSED + answer.refusal;
     }
-    let found = read.policy;
-    let policy = Policy {
-        form: found.form,
-        kind: found.kind,
-        request: found.request,
-        query: found.query,
-        response: found.response,
-    };
-    let printed = create_cel_expr::print_policy(policy, text, &spans, out);
+    let printed = create_cel_expr::print_known(read.policy, text, &spans, out);
     if printed.refusal != 0 {
         return REFUSED + printed.refusal;
     }

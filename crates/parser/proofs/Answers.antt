@@ -12,6 +12,7 @@ use Rattle.cel_text.specs.Byte.{Text, ascii, lead, stringByte}
 use Rattle.cel_text.specs.Tree.{Tree, nodes, unkeyed}
 use Rattle.cel_text.specs.Reading.{Fault, syntax, tooDeep, tooMany, root, read, limits}
 use Rattle.cel_text.specs.Table.{Words, rows, Left, untouched, cleared, filled, hold, nodesLeft, nodeWords}
+use Rattle.cel_text.specs.Laws.Class.{same-either-way}
 use Rattle.cel_text.specs.Answer.{Found, tree, fault, found, findTree, nodesAfter, treeAnswer, treeTable, faultNumber, maxText}
 use Rattle.parser.specs.declared.Step.{Step}
 use Rattle.parser.specs.declared.Step.the-variants.{Next, Refused}
@@ -72,13 +73,9 @@ pub small : (x : Text) (w w′ : Words) (s : Step) → Finds x w w′ s → Smal
 small x w w′ (Next q m d) f = (f .room, f .shallow)
 small x w w′ (Refused r p) f = (omega (arith, f .low), f .high, f .within)
 
-same-cond : (b : Bool) (n : ℕ) → cond b n n ≡ n
-same-cond true n = refl
-same-cond false n = refl
-
 pub small-nodes : (s : Step) → Small s → answerOf s .nodes ≤ 256
 small-nodes (Next q m d) h = h .0
-small-nodes (Refused r p) h = simp same-cond (omega arith)
+small-nodes (Refused r p) h = simp same-either-way (omega arith)
 
 pub find-answer : (x : Text) (w w′ : Words) (s : Step) → Finds x w w′ s → answerOf s ≡ treeAnswer nodeWords x
 unfolding treeAnswer

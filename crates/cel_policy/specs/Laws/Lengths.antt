@@ -7,6 +7,7 @@ use lib.ListN.{length, length-append}
 use lib.Dec.{eqb}
 use native.Mathlib.Omega.{arith}
 use Rattle.cel_text.specs.Byte.{Text}
+use Rattle.cel_text.specs.Laws.Class.{same-either-way}
 use Rattle.cel_policy.specs.Policy.{Policy, exclusions}
 use Rattle.cel_policy.specs.Printed.{joined, listText, listKey, skipText, requestText, responseText, responseOnlyText, fullText, printed, total, listLength, printedLength}
 
@@ -24,10 +25,6 @@ length-cond true x y = refl
 length-cond false x y = refl
 
 -- both keys of the response list have 26 bytes
-same-either-way : (b : Bool) (n : ℕ) → cond b n n ≡ n
-same-either-way true n = refl
-same-either-way false n = refl
-
 length-listKey : (kind : ℕ) → length (listKey kind) ≡ 26
 length-listKey kind = rw length-cond (same-either-way (eqb kind exclusions) 26)
 

@@ -41,7 +41,7 @@ spansAt-rows : (ss : List Span) (ws : Words) → spansAt (spanRows ss ++ ws) (le
 spansAt-rows [] ws = refl
 spansAt-rows (s ∷ ss) ws = ap (s ∷_) (spansAt-step (s .from) (s .to) (spanRows ss ++ ws) (length ss) 0 ∙ spansAt-rows ss ws)
 
-spanRows-append : (a b : List Span) → spanRows (a ++ b) ≡ spanRows a ++ spanRows b
+pub spanRows-append : (a b : List Span) → spanRows (a ++ b) ≡ spanRows a ++ spanRows b
 spanRows-append [] b = refl
 spanRows-append (s ∷ a) b = cc (spanRows-append a b)
 
@@ -108,19 +108,32 @@ module _ (S : ℕ → Bool) (x : Text) where
   unfolding bytesFit
   bytesFit-fits ws j f = allOf-run (f .stringBytes)
 
-  -- from the table that a read has filled, what was read is printed
-  pub print-read : (p : Policy Span) → Readable S x p → (ws : Words) (r : ℕ)
-      → findPrint S (counted p) (spanTable p ++ ws) x r ≡ sized (printed (strings x p)) r
-  unfolding findPrint
-  print-read p read ws r =
-      let table : Words = spanTable p ++ ws in
-      let n : ℕ = stringCount (counted p) in
-      let all : spansAt table n 0 ≡ allStrings p = sym (allStrings-placed (counted p) table) ∙ ap allStrings (placed-table p ws) in
-      let fit : Each (Fits S x) (spansAt table n 0) = rw all (read .fits) in
-      let long : 2 * n ≤ length table = unfold spanTable in simp (length-append, length-spanRows) (omega (arith, count-strings p)) in
-      let first : firstFault (spanFits table x) n 0 ≡ none = no-fault (spanFits table x) table n 0 (λ j l f. spanFits-fits table j (omega arith) f) fit in
-      let second : firstFault (bytesFit S table x) n 0 ≡ none = no-fault (bytesFit S table x) table n 0 (λ j l f. bytesFit-fits table j f) fit in
-      rw (shape-right (read .shape), first, second) (ap (λ (q : Policy Span). sized (printed (strings x q)) r) (placed-table p ws))
+  -- in the table that a read has filled every string is where print looks for it, and fits
+  module _ (p : Policy Span) (read : Readable S x p) (ws : Words) where
+    fitting : Each (Fits S x) (spansAt (spanTable p ++ ws) (stringCount (counted p)) 0)
+    fitting = rw (sym (allStrings-placed (counted p) (spanTable p ++ ws)) ∙ ap allStrings (placed-table p ws)) (read .fits)
+
+    enough : 2 * stringCount (counted p) ≤ length (spanTable p ++ ws)
+    unfolding spanTable
+    enough = simp (length-append, length-spanRows) (omega (arith, count-strings p))
+
+    pub read-shaped : shaped (counted p) ≡ true
+    read-shaped = shape-right (read .shape)
+
+    pub read-inside : firstFault (spanFits (spanTable p ++ ws) x) (stringCount (counted p)) 0 ≡ none
+    read-inside =
+        no-fault (spanFits (spanTable p ++ ws) x) (spanTable p ++ ws) (stringCount (counted p)) 0
+        (λ j l f. spanFits-fits (spanTable p ++ ws) j (omega (arith, enough)) f) fitting
+
+    pub read-plain : firstFault (bytesFit S (spanTable p ++ ws) x) (stringCount (counted p)) 0 ≡ none
+    read-plain =
+        no-fault (bytesFit S (spanTable p ++ ws) x) (spanTable p ++ ws) (stringCount (counted p)) 0
+        (λ j l f. bytesFit-fits (spanTable p ++ ws) j f) fitting
+
+    -- so what was read is printed
+    pub print-read : (r : ℕ) → findPrint S (counted p) (spanTable p ++ ws) x r ≡ sized (printed (strings x p)) r
+    unfolding findPrint
+    print-read r = rw (read-shaped, read-inside, read-plain) (ap (λ (q : Policy Span). sized (printed (strings x q)) r) (placed-table p ws))
 
 -- ---- what print accepts
 

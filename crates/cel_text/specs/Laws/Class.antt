@@ -21,6 +21,11 @@ pub by-test {ℓ} : {A : Type ℓ} (P : A → Type 0) (t : Bool) (u v : A) → (
 by-test P true u v f g = f refl
 by-test P false u v f g = g refl
 
+-- two choices that are the same
+pub same-either-way : (b : Bool) (n : ℕ) → cond b n n ≡ n
+same-either-way true n = refl
+same-either-way false n = refl
+
 -- what holds of either test's proof holds of a proof of one or the other
 either : {P : Type 0} (a b : Bool) → (T a → P) → (T b → P) → T (a || b) → P
 either true b f g h = f h

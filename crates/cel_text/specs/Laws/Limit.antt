@@ -21,7 +21,7 @@ use Rattle.cel_text.specs.Laws.Sound.{Reads, sound}
 use Rattle.cel_text.specs.Laws.Place.{trace-unlimited, trace-viable, legal-accepted, refused-longest, dead, moves-done, moves-syntax}
 
 -- constructors that differ: `clash cc`
-clash : {A : Type 0} → _≡_ {A = ℕ} 0 1 → A
+pub clash : {A : Type 0} → _≡_ {A = ℕ} 0 1 → A
 clash e = absurd (omega arith)
 
 -- ---- looking up in lists put together

@@ -4,15 +4,16 @@ use native.Mathlib.Omega.{arith}
 use lib.Seq.{slice}
 use Rattle.cel_policy.specs.Names.{same, spelling}
 use Rattle.cel_policy.specs.Mapping.{bad, typed}
-use Rattle.ast_mapping.specs.View.{asKind, word, nodeAt, typedAt}
-use Rattle.ast_mapping.proofs.Names.{part-slice}
+use Rattle.parser.specs.Kinds.{kindOf}
+use Rattle.ast_mapping.specs.View.{word, nodeAt, typedAt}
+use Rattle.create_cel_expr.proofs.Pieces.{part-slice}
 use Rattle.ast_mapping.proofs.View.{room, few}
 use Rattle.ast_mapping.proofs.Steps.{NameAt, wrong-kind, right-kind}
 use Rattle.ast_mapping.proofs.mapping.validate_node.Statement.{statement}
 use Rattle.ast_mapping.proofs.mapping.validate_node.Tie as tie
 
-right : (c : tie.Else1) → NameAt (c .before .before .before .before .args .table .now) (c .before .before .before .before .args .text .now) (c .before .before .before .before .args .node .0) (c .before .before .before .before .args .name) (typedAt (c .before .before .before .before .args .table .now) (c .before .before .before .before .args .text .now) (c .before .before .before .before .args .node .0)) (typed (asKind (c .before .before .before .before .args .kind)) (c .before .before .before .before .args .name) (nodeAt (c .before .before .before .before .args .table .now) (c .before .before .before .before .args .text .now) (c .before .before .before .before .args .node .0)))
-right c = right-kind (c .before .before .before .before .args .table .now) (c .before .before .before .before .args .text .now) (asKind (c .before .before .before .before .args .kind)) (c .before .before .before .before .args .name) (c .before .before .before .before .args .node .0) (c .before .before .before .before .args .kind) (c .before .before .before .before .pre .0) (c .before .before .before .before .pre .1) (sym (c .before .word .ensures) ∙ c .if1 .left)
+right : (c : tie.Else1) → NameAt (c .before .before .before .before .args .table .now) (c .before .before .before .before .args .text .now) (c .before .before .before .before .args .node .0) (c .before .before .before .before .args .name) (typedAt (c .before .before .before .before .args .table .now) (c .before .before .before .before .args .text .now) (c .before .before .before .before .args .node .0)) (typed (kindOf (c .before .before .before .before .args .kind)) (c .before .before .before .before .args .name) (nodeAt (c .before .before .before .before .args .table .now) (c .before .before .before .before .args .text .now) (c .before .before .before .before .args .node .0)))
+right c = right-kind (c .before .before .before .before .args .table .now) (c .before .before .before .before .args .text .now) (kindOf (c .before .before .before .before .args .kind)) (c .before .before .before .before .args .name) (c .before .before .before .before .args .node .0) (c .before .before .before .before .args .kind) (c .before .before .before .before .pre .0) (c .before .before .before .before .pre .1) (sym (c .before .word .ensures) ∙ c .if1 .left)
 
 spelled : (c : tie.After-is-name) → c .is-name .result ≡ same (slice (word (c .before .before .before .before .before .before .before .before .args .table .now) (c .before .before .before .before .before .before .before .before .args .node .0) 1) (word (c .before .before .before .before .before .before .before .before .args .table .now) (c .before .before .before .before .before .before .before .before .args .node .0) 2) (c .before .before .before .before .before .before .before .before .args .text .now)) (spelling (c .before .before .before .before .before .before .before .before .args .name))
 spelled c = rw (part-slice, c .before .before .before .word2 .ensures, c .before .before .word3 .ensures) at (c .is-name .ensures)
@@ -24,7 +25,7 @@ refused-requires : tie.Need-refused-requires
 refused-requires c κs = few (c .before .before .before .before .args .table .now) (c .before .before .before .before .args .text .now) (c .before .before .before .before .args .node .0) (c .before .before .before .before .pre .0)
 
 returns : tie.Need-returns
-returns c = ap bad (c .refused .ensures) ∙ wrong-kind (c .before .before .before .before .before .args .table .now) (c .before .before .before .before .before .args .text .now) (asKind (c .before .before .before .before .before .args .kind)) (c .before .before .before .before .before .args .name) (c .before .before .before .before .before .args .node .0) (c .before .before .before .before .before .args .kind) (c .before .before .before .before .before .pre .0) (c .before .before .before .before .before .pre .1) (λ e. c .before .if1 .taken (c .before .before .word .ensures ∙ e))
+returns c = ap bad (c .refused .ensures) ∙ wrong-kind (c .before .before .before .before .before .args .table .now) (c .before .before .before .before .before .args .text .now) (kindOf (c .before .before .before .before .before .args .kind)) (c .before .before .before .before .before .args .name) (c .before .before .before .before .before .args .node .0) (c .before .before .before .before .before .args .kind) (c .before .before .before .before .before .pre .0) (c .before .before .before .before .before .pre .1) (λ e. c .before .if1 .taken (c .before .before .word .ensures ∙ e))
 
 word-requires-2 : tie.Need-word-requires-2
 word-requires-2 c κs = (room (c .before .before .before .before .args .table .now) (c .before .before .before .before .args .text .now) (c .before .before .before .before .args .node .0) (c .before .before .before .before .pre .0), omega arith)
