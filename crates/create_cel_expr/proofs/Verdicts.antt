@@ -39,7 +39,6 @@ module _ (k : Counted) (ws : Words) (x : Text) (room : ℕ) where
       unfolding findPrint
       refused-22 i e = rw (ok, inside, sym e)
 
-
   passed-22 : Faultless k ws x → findPrint stringByte k ws x room ≡ sized (printed (strings x (placed k ws))) room
   unfolding findPrint
   passed-22 f = rw (f .shape, f .inside, f .plain)

@@ -108,21 +108,17 @@ module _ (x out : Text) (pa : PolicyAnswer) (isAnswer : pa ≡ policyAnswer node
       let e : pa .answer .refusal ≡ policyAnswer nodeWords spanWords x .answer .refusal = ap (λ (a : PolicyAnswer). a .answer .refusal) isAnswer in
       (number-unread x (length out) (pa .answer .refusal) e z, output-unread x out (pa .answer .refusal) e z)
 
-  module _
-      (out′ : Text)
-      (ws : Words)
-      (a : PrintAnswer)
-      (isRead : pa .answer .refusal ≡ 0)
-      (areSpans : ws ≡ policySpans x (replicate nodeWords 0) (replicate spanWords 0))
-      (isPrint : a ≡ printAnswer (pa .policy) ws x (length out))
-      (isOutput : out′ ≡ printOutput (pa .policy) ws x out)
-    where
-      read-zero : policyAnswer nodeWords spanWords x .answer .refusal ≡ 0
-      read-zero = ap (λ (b : PolicyAnswer). b .answer .refusal) (sym isAnswer) ∙ isRead
+  module _ (ws : Words) (isRead : pa .answer .refusal ≡ 0) (areSpans : ws ≡ policySpans x (replicate nodeWords 0) (replicate spanWords 0)) where
+    read-zero : policyAnswer nodeWords spanWords x .answer .refusal ≡ 0
+    read-zero = ap (λ (b : PolicyAnswer). b .answer .refusal) (sym isAnswer) ∙ isRead
 
-      same-policy : policyAnswer nodeWords spanWords x .policy ≡ pa .policy
-      same-policy = ap (λ (b : PolicyAnswer). b .policy) (sym isAnswer)
+    same-policy : policyAnswer nodeWords spanWords x .policy ≡ pa .policy
+    same-policy = ap (λ (b : PolicyAnswer). b .policy) (sym isAnswer)
 
+    pub host-faultless : Faultless (pa .policy) ws x
+    host-faultless = subst (λ (w : Words). Faultless (pa .policy) w x) (sym areSpans) (faultless-read x (length out) (pa .policy) read-zero same-policy)
+
+    module _ (out′ : Text) (a : PrintAnswer) (isPrint : a ≡ printAnswer (pa .policy) ws x (length out)) (isOutput : out′ ≡ printOutput (pa .policy) ws x out) where
       answer : a ≡ printAnswer (pa .policy) (policySpans x (replicate nodeWords 0) (replicate spanWords 0)) x (length out)
       answer = isPrint ∙ ap (λ (w : Words). printAnswer (pa .policy) w x (length out)) areSpans
 

@@ -2,7 +2,7 @@
 use native.Mathlib.Omega.{arith}
 use Rattle.ast_mapping.specs.Spans.{policyTold}
 use Rattle.create_cel_expr.specs.Given.{told}
-use Rattle.host.proofs.Numbers.{read-small, host-unread, print-small, host-printed, host-unprinted}
+use Rattle.host.proofs.Numbers.{read-small, host-unread, host-faultless, print-small, host-printed, host-unprinted}
 use borrow.Author.Needs.{needs}
 use Rattle.host.proofs.canonicalise.Statement.{statement}
 use Rattle.host.proofs.canonicalise.Tie as tie
@@ -22,26 +22,26 @@ add-result c = record { fits = omega (arith, read-small (c .before .before .befo
 returns : tie.Need-returns
 returns c = host-unread (c .before .before .before .before .before .before .before .before .before .before .before .args .text .now) (c .before .before .before .before .before .before .before .before .before .before .before .args .out .now) (policyTold (c .before .before .before .before .before .before .read-policy .result)) (c .before .before .before .before .before .before .read-policy .ensures .0) (c .before .if1 .taken)
 
-slice-aggregate-print-policy : tie.Need-slice-aggregate-print-policy
-slice-aggregate-print-policy c = search needs
+slice-aggregate-print-known : tie.Need-slice-aggregate-print-known
+slice-aggregate-print-known c = search needs
 
-print-policy-requires : tie.Need-print-policy-requires
-print-policy-requires c κs = search needs
+print-known-requires : tie.Need-print-known-requires
+print-known-requires c κs = host-faultless (c .before .before .before .before .before .before .before .before .before .before .before .before .args .text .now) (c .before .before .before .before .before .before .before .before .before .before .before .before .args .out .now) (policyTold (c .before .before .before .before .before .before .before .read-policy .result)) (c .before .before .before .before .before .before .before .read-policy .ensures .0) (c .before .before .before .before .before .before .before .read-policy .last .1 .1 .0) (c .before .before .if1 .left) (c .before .before .before .before .before .before .before .read-policy .ensures .1 .1)
 
 add-result-2 : tie.Need-add-result-2
-add-result-2 c = record { fits = omega (arith, print-small (c .before .before .before .before .before .before .before .before .before .before .before .before .before .before .before .before .before .before .before .args .text .now) (c .before .before .before .before .before .before .before .before .before .before .before .before .before .before .before .before .before .before .before .args .out .now) (policyTold (c .before .before .before .before .before .before .before .before .before .before .before .before .before .before .read-policy .result)) (c .before .before .before .before .before .before .before .before .before .before .before .before .before .before .read-policy .ensures .0) (c .before .before .before .before .before .print-policy .last .1 .1 .1 .0) (c .before .before .before .before .before .before .before .before .before .before .before .before .before .before .read-policy .last .1 .1 .0) (told (c .before .before .before .before .before .print-policy .result)) (c .before .before .before .before .before .before .before .before .before .if1 .left) (c .before .before .before .before .before .before .before .before .before .before .before .before .before .before .read-policy .ensures .1 .1) (c .before .before .before .before .before .print-policy .ensures .0) (c .before .before .before .before .before .print-policy .ensures .1)) }
+add-result-2 c = record { fits = omega (arith, print-small (c .before .before .before .before .before .before .before .before .before .before .before .before .before .before .before .before .before .before .args .text .now) (c .before .before .before .before .before .before .before .before .before .before .before .before .before .before .before .before .before .before .args .out .now) (policyTold (c .before .before .before .before .before .before .before .before .before .before .before .before .before .read-policy .result)) (c .before .before .before .before .before .before .before .before .before .before .before .before .before .read-policy .ensures .0) (c .before .before .before .before .before .before .before .before .before .before .before .before .before .read-policy .last .1 .1 .0) (c .before .before .before .before .before .before .before .before .if1 .left) (c .before .before .before .before .before .before .before .before .before .before .before .before .before .read-policy .ensures .1 .1) (c .before .before .before .before .before .print-known .last .1 .1 .1 .0) (told (c .before .before .before .before .before .print-known .result)) (c .before .before .before .before .before .print-known .ensures .0) (c .before .before .before .before .before .print-known .ensures .1)) }
 
 same-length : tie.Need-same-length
 same-length c = search needs
 
 returns-2 : tie.Need-returns-2
-returns-2 c = host-unprinted (c .before .before .before .before .before .before .before .before .before .before .before .before .before .before .before .before .before .before .before .args .text .now) (c .before .before .before .before .before .before .before .before .before .before .before .before .before .before .before .before .before .before .before .args .out .now) (policyTold (c .before .before .before .before .before .before .before .before .before .before .before .before .before .before .read-policy .result)) (c .before .before .before .before .before .before .before .before .before .before .before .before .before .before .read-policy .ensures .0) (c .before .before .before .before .before .print-policy .last .1 .1 .1 .0) (c .before .before .before .before .before .before .before .before .before .before .before .before .before .before .read-policy .last .1 .1 .0) (told (c .before .before .before .before .before .print-policy .result)) (c .before .before .before .before .before .before .before .before .before .if1 .left) (c .before .before .before .before .before .before .before .before .before .before .before .before .before .before .read-policy .ensures .1 .1) (c .before .before .before .before .before .print-policy .ensures .0) (c .before .before .before .before .before .print-policy .ensures .1) (c .before .if2 .taken)
+returns-2 c = host-unprinted (c .before .before .before .before .before .before .before .before .before .before .before .before .before .before .before .before .before .before .args .text .now) (c .before .before .before .before .before .before .before .before .before .before .before .before .before .before .before .before .before .before .args .out .now) (policyTold (c .before .before .before .before .before .before .before .before .before .before .before .before .before .read-policy .result)) (c .before .before .before .before .before .before .before .before .before .before .before .before .before .read-policy .ensures .0) (c .before .before .before .before .before .before .before .before .before .before .before .before .before .read-policy .last .1 .1 .0) (c .before .before .before .before .before .before .before .before .if1 .left) (c .before .before .before .before .before .before .before .before .before .before .before .before .before .read-policy .ensures .1 .1) (c .before .before .before .before .before .print-known .last .1 .1 .1 .0) (told (c .before .before .before .before .before .print-known .result)) (c .before .before .before .before .before .print-known .ensures .0) (c .before .before .before .before .before .print-known .ensures .1) (c .before .if2 .taken)
 
 same-length-2 : tie.Need-same-length-2
 same-length-2 c = search needs
 
 returns-3 : tie.Need-returns-3
-returns-3 c = host-printed (c .before .before .before .before .before .before .before .before .before .before .before .before .before .before .before .before .before .before .args .text .now) (c .before .before .before .before .before .before .before .before .before .before .before .before .before .before .before .before .before .before .args .out .now) (policyTold (c .before .before .before .before .before .before .before .before .before .before .before .before .before .read-policy .result)) (c .before .before .before .before .before .before .before .before .before .before .before .before .before .read-policy .ensures .0) (c .before .before .before .before .print-policy .last .1 .1 .1 .0) (c .before .before .before .before .before .before .before .before .before .before .before .before .before .read-policy .last .1 .1 .0) (told (c .before .before .before .before .print-policy .result)) (c .before .before .before .before .before .before .before .before .if1 .left) (c .before .before .before .before .before .before .before .before .before .before .before .before .before .read-policy .ensures .1 .1) (c .before .before .before .before .print-policy .ensures .0) (c .before .before .before .before .print-policy .ensures .1) (c .if2 .left)
+returns-3 c = host-printed (c .before .before .before .before .before .before .before .before .before .before .before .before .before .before .before .before .before .args .text .now) (c .before .before .before .before .before .before .before .before .before .before .before .before .before .before .before .before .before .args .out .now) (policyTold (c .before .before .before .before .before .before .before .before .before .before .before .before .read-policy .result)) (c .before .before .before .before .before .before .before .before .before .before .before .before .read-policy .ensures .0) (c .before .before .before .before .before .before .before .before .before .before .before .before .read-policy .last .1 .1 .0) (c .before .before .before .before .before .before .before .if1 .left) (c .before .before .before .before .before .before .before .before .before .before .before .before .read-policy .ensures .1 .1) (c .before .before .before .before .print-known .last .1 .1 .1 .0) (told (c .before .before .before .before .print-known .result)) (c .before .before .before .before .print-known .ensures .0) (c .before .before .before .before .print-known .ensures .1) (c .if2 .left)
 
 pub canonicalise-spec : {M : Type 1} → statement M
 canonicalise-spec =
@@ -52,8 +52,8 @@ canonicalise-spec =
     read-policy-requires
     add-result
     returns
-    slice-aggregate-print-policy
-    print-policy-requires
+    slice-aggregate-print-known
+    print-known-requires
     add-result-2
     same-length
     returns-2
