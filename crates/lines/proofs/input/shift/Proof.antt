@@ -2,8 +2,8 @@
 use mathlib.Core.Path.{_≡_, refl}
 use Prim.Native.Nat.{_≤_, _-_}
 use lib.ListN.{length, length-set}
-use Rattle.lines.proofs.shift.Statement.{statement}
-use Rattle.lines.proofs.shift.Tie as tie
+use Rattle.lines.proofs.input.shift.Statement.{statement}
+use Rattle.lines.proofs.input.shift.Tie as tie
 use borrow.Author.Needs.{needs}
 use native.Mathlib.Omega.{arith}
 

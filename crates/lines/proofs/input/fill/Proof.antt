@@ -2,8 +2,8 @@
 use mathlib.Core.Path.{_≡_, refl, _∙_}
 use Prim.Native.Nat.{_≤_, _-_}
 use lib.ListN.{length}
-use Rattle.lines.proofs.fill.Statement.{statement}
-use Rattle.lines.proofs.fill.Tie as tie
+use Rattle.lines.proofs.input.fill.Statement.{statement}
+use Rattle.lines.proofs.input.fill.Tie as tie
 use native.Mathlib.Omega.{arith}
 
 abbrev Inv-loop : tie.InvT-loop

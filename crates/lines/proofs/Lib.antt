@@ -1,0 +1,3 @@
+-- Lemmas on what the contracts cite.
+mod Fields
+mod Pieces

@@ -1,0 +1,33 @@
+// `print_policy` called on what a request gives and lends, and its fields.
+ghost use mathlib.Core.Path.{_≡_};
+ghost use Prim.Native.Nat.{_≤_};
+ghost use lib.ListN.{length};
+use create_cel_expr::Policy;
+use lines::FILL_BYTE;
+
+// The answer and the whole output, and the line end.
+fn put_printed(text: &[u8], policy: Policy, spans: &[u32], room: &mut [u8], out: &mut [u8]) -> usize
+    ensures { λ r. ⌜ r ≤ length (now (out .exit)) ⌝ }
+{
+    let a = create_cel_expr::print_policy(policy, text, spans, room);
+    let numbers = [a.refusal, a.name, a.kind, a.place, a.length];
+    let end = lines::put_words(out, 0, &numbers, 5);
+    let end = lines::put(out, end, b"\t");
+    let end = lines::put_hex(out, end, room, room.len());
+    lines::put(out, end, b"\n")
+}
+
+// The same on an output of so many bytes.
+pub(crate) fn put_all(
+    text: &[u8],
+    policy: Policy,
+    spans: &[u32],
+    most: usize,
+    out: &mut [u8],
+) -> usize
+    requires { ⌜ most ≤ 16384 ⌝ }
+    ensures { λ r. ⌜ r ≤ length (now (out .exit)) ⌝ }
+{
+    let mut room = lines::filled(FILL_BYTE);
+    put_printed(text, policy, spans, &mut room[..most], out)
+}
