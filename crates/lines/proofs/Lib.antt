@@ -1,3 +1,4 @@
--- Lemmas on what the contracts cite.
+-- Lemmas on what the contracts cite, and that the contracts have one answer.
 mod Fields
 mod Pieces
+mod Same

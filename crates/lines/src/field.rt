@@ -1,6 +1,6 @@
 // The fields of a line: bytes in hex, and decimal numbers.
 ghost use mathlib.Core.Path.{_≡_};
-ghost use Prim.Native.Nat.{_≤_, _<_};
+ghost use Prim.Native.Nat.{_≤_};
 ghost use lib.ListN.{length};
 ghost use Rattle.lines.specs.Fields.{hexValue, hexCount, hexLeft, readDecimal, AtMost, numberAfter, Within};
 

@@ -5,8 +5,6 @@ mod line;
 mod print;
 
 use libc::STDOUT_FILENO;
-ghost use Prim.Native.Nat.{_≤_};
-ghost use lib.ListN.{length};
 
 // Nothing says that the input ends, so the turns are counted down from a number that no run uses up.
 fn serve(input: &mut [u8], out: &mut [u8]) {

@@ -1,5 +1,4 @@
 // `print_policy` called on what a request gives and lends, and its fields.
-ghost use mathlib.Core.Path.{_≡_};
 ghost use Prim.Native.Nat.{_≤_};
 ghost use lib.ListN.{length};
 use create_cel_expr::Policy;

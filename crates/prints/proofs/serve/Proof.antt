@@ -1,6 +1,5 @@
 -- `serve` is safe, and ends since its turns are counted. Assumes nothing.
 use mathlib.Core.Path.{_≡_, refl, sym, _∙_}
-use Prim.Native.Nat.{_≤_}
 use lib.ListN.{length}
 use lib.Seq.{length-take-le}
 use Rattle.lines.specs.Input.{Inside, nothing-inside}

@@ -1,5 +1,5 @@
 -- `input::after_cut` is safe: each read begins at the front, and ends within the buffer. Assumes nothing.
-use mathlib.Core.Path.{_≡_, refl, sym, _∙_}
+use mathlib.Core.Path.{_≡_, refl, _∙_}
 use lib.ListN.{length}
 use Rattle.lines.specs.Input.{nothing-inside}
 use borrow.Author.Needs.{needs}

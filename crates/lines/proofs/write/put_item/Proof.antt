@@ -1,5 +1,5 @@
 -- `write::put_item` meets its contract: a comma before every word but the first. Assumes nothing.
-use mathlib.Core.Path.{_≡_, sym, ap, _∙_}
+use mathlib.Core.Path.{ap, _∙_}
 use mathlib.Core.List.{[], _∷_}
 use Rattle.lines.specs.Pieces.{Written, after, numeral}
 use Rattle.lines.proofs.Pieces.{item-first, item-later}

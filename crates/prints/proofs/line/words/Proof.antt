@@ -1,5 +1,5 @@
 -- `line::words` is safe, and puts no more words than the table has room for: each turn puts one. Assumes nothing.
-use mathlib.Core.Path.{_≡_, refl, subst, _∙_}
+use mathlib.Core.Path.{_≡_, refl, subst}
 use Prim.Native.Nat.{_≤_, _-_}
 use lib.ListN.{length, length-set}
 use borrow.Author.Needs.{needs}
