@@ -11,17 +11,17 @@ use lib.Seq.{take-all, take-length, drop-drop, slice-cons, length-take-le}
 use borrow.Author.Tests.{lt-ltb, le-ltb, le-leb, lt-leb}
 use borrow.Rule.Slice.PartMut.{putMid, midOf}
 use Rattle.io.specs.Digits.{digits, Fewest}
-use Rattle.lines.specs.Pieces.{Written, written, with-piece, after, widthFrom, numeral, itemPieces, wordPieces, pair, pairs}
+use Rattle.lines.specs.Pieces.{Written, written, withPiece, after, widthFrom, numeral, itemPieces, wordPieces, pair, pairs}
 
--- one piece
+-- one piece: left out, or copied to the front of what stands from `at` on
 module _ (out : List ℕ) (at : ℕ) (t : List ℕ) where
   pub piece-left-out : length out < at + length t → written at out ≡ after (written at out) (t ∷ [])
-  unfolding with-piece
+  unfolding withPiece
   piece-left-out l = rw (lt-leb _ _ l)
 
   pub piece-put : at + length t ≤ length out
       → written (at + length t) (putMid at (length out - at) out (take (length t) t ++ drop (length t) (midOf at (length out - at) out))) ≡ after (written at out) (t ∷ [])
-  unfolding with-piece
+  unfolding withPiece
   piece-put h =
       let k : ℕ = length out - at in
       let all : take k (drop at out) ≡ drop at out = take-all k (drop at out) (simp length-drop (omega arith)) in
@@ -30,7 +30,7 @@ module _ (out : List ℕ) (at : ℕ) (t : List ℕ) where
 
 pub after-append : (w : Written) (ps qs : List (List ℕ)) → after w (ps ++ qs) ≡ after (after w ps) qs
 after-append w [] qs = refl
-after-append w (p ∷ ps) qs = after-append (with-piece w p) ps qs
+after-append w (p ∷ ps) qs = after-append (withPiece w p) ps qs
 
 -- word i, and those after it
 pub item-first : (i v : ℕ) → i ≡ 0 → (w : Written) → after w (numeral v ∷ []) ≡ after w (itemPieces i v)
@@ -59,7 +59,7 @@ module _ (w : Written) (ws : List ℕ) (n i : ℕ) where
   pub pairs-end : n ≤ length ws → n ≤ i → after w (pairs (drop i (take n ws))) ≡ w
   pairs-end h o = rw (none-left h o)
 
--- more digits than hold n are not the fewest
+-- more digits than some that hold n are not the fewest
 not-fewest : (b least n m most : ℕ) → 0 < b → Fewest b least n m → least ≤ most → n < b ^ most → most < m → ⊥
 not-fewest b least n m most h f within holds over =
     let p : b ^ (m - 1) ≤ n = f .2 (omega arith) in
@@ -69,18 +69,22 @@ not-fewest b least n m most h f within holds over =
 few : (b least n m most : ℕ) → 0 < b → Fewest b least n m → least ≤ most → n < b ^ most → m ≤ most
 few b least n m most h f within holds = le-of-suc-le-suc (lt-of-not-le (not-fewest b least n m most h f within holds))
 
+-- fewer digits than the fewest do not hold n
+too-few : (n m k : ℕ) → Fewest 10 1 n m → 1 ≤ k → k < m → 10 ^ k ≤ n
+too-few n m k f p o =
+    let q : 10 ^ (m - 1) ≤ n = f .2 (omega arith) in
+    let r : 10 ^ k ≤ 10 ^ (m - 1) = pow-le-pow-right (omega arith) (omega arith) in
+    omega arith
+
 -- the width of a number is the fewest digits that hold it
 width-fewest : (more k n m : ℕ) → Fewest 10 1 n m → 1 ≤ k → k ≤ m → m ≤ k + more → widthFrom more k n ≡ m
 width-fewest zero k n m f p l u = omega arith
 width-fewest (suc more) k n m f p l u =
-    ⊎-elim
-    (λ e. let h : n < 10 ^ k = rw e (f .1) in rw (lt-ltb n (10 ^ k) h) e)
-    (λ o. let q : 10 ^ (m - 1) ≤ n = f .2 (omega arith) in
-    let r : 10 ^ k ≤ 10 ^ (m - 1) = pow-le-pow-right (omega arith) (omega arith) in
-    let h : 10 ^ k ≤ n = omega arith in
     let a : 1 ≤ suc k = omega arith in
     let b : m ≤ suc k + more = omega arith in
-    rw (le-ltb n (10 ^ k) h) (width-fewest more (suc k) n m f a o b))
+    ⊎-elim
+    (λ e. let h : n < 10 ^ k = rw e (f .1) in rw (lt-ltb n (10 ^ k) h) e)
+    (λ o. rw (le-ltb n (10 ^ k) (too-few n m k f p o)) (width-fewest more (suc k) n m f a o b))
     (eq-or-lt-of-le l)
 
 pub numeral-fewest : (n m : ℕ) → n < 4294967296 → Fewest 10 1 n m → digits 10 m n ≡ numeral n

@@ -14,21 +14,23 @@ pub record Written : Type 0 where
 abbrev pub written : ℕ → List ℕ → Written
 written at out = record { at = at; out = out }
 
-unfoldable pub with-piece : Written → List ℕ → Written
-with-piece w piece =
+-- what is written after one piece more
+unfoldable pub withPiece : Written → List ℕ → Written
+withPiece w piece =
     cond (leb (w .at + length piece) (length (w .out)))
     (written (w .at + length piece) (take (w .at) (w .out) ++ (piece ++ drop (w .at + length piece) (w .out))))
     w
 
+-- and after all pieces of a list
 abbrev pub after : Written → List (List ℕ) → Written
 after w [] = w
-after w (piece ∷ rest) = after (with-piece w piece) rest
+after w (piece ∷ rest) = after (withPiece w piece) rest
 
 -- `bad line` and a line end
 abbrev pub badLine : List ℕ
 badLine = 98 ∷ (97 ∷ (100 ∷ (32 ∷ (108 ∷ (105 ∷ (110 ∷ (101 ∷ (10 ∷ []))))))))
 
--- how many decimal digits a number takes, from k to k and as many more as the first argument says
+-- the first of k, k + 1, .. decimal digits that hold n, where at most k + more do
 abbrev pub widthFrom : (more k n : ℕ) → ℕ
 widthFrom zero k n = k
 widthFrom (suc more) k n = cond (ltb n (10 ^ k)) k (widthFrom more (suc k) n)
@@ -51,6 +53,7 @@ wordPieces i (w ∷ ws) = itemPieces i w ++ wordPieces (suc i) ws
 unfoldable pub pair : ℕ → List ℕ
 pair b = digits 16 2 b
 
+-- bytes in hex, each a piece
 abbrev pub pairs : List ℕ → List (List ℕ)
 pairs [] = []
 pairs (b ∷ bs) = pair b ∷ pairs bs

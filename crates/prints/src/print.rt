@@ -5,14 +5,14 @@ use create_cel_expr::Policy;
 use lines::FILL_BYTE;
 
 // The answer and the whole output, and the line end.
-fn put_printed(text: &[u8], policy: Policy, spans: &[u32], room: &mut [u8], out: &mut [u8]) -> usize
+fn put_printed(text: &[u8], policy: Policy, spans: &[u32], lent: &mut [u8], out: &mut [u8]) -> usize
     ensures { λ r. ⌜ r ≤ length (now (out .exit)) ⌝ }
 {
-    let a = create_cel_expr::print_policy(policy, text, spans, room);
+    let a = create_cel_expr::print_policy(policy, text, spans, lent);
     let numbers = [a.refusal, a.name, a.kind, a.place, a.length];
     let end = lines::put_words(out, 0, &numbers, 5);
     let end = lines::put(out, end, b"\t");
-    let end = lines::put_hex(out, end, room, room.len());
+    let end = lines::put_hex(out, end, lent, lent.len());
     lines::put(out, end, b"\n")
 }
 
@@ -21,12 +21,12 @@ pub(crate) fn put_all(
     text: &[u8],
     policy: Policy,
     spans: &[u32],
-    most: usize,
+    room: usize,
     out: &mut [u8],
 ) -> usize
-    requires { ⌜ most ≤ 16384 ⌝ }
+    requires { ⌜ room ≤ 16384 ⌝ }
     ensures { λ r. ⌜ r ≤ length (now (out .exit)) ⌝ }
 {
-    let mut room = lines::filled(FILL_BYTE);
-    put_printed(text, policy, spans, &mut room[..most], out)
+    let mut lent = lines::filled(FILL_BYTE);
+    put_printed(text, policy, spans, &mut lent[..room], out)
 }

@@ -9,14 +9,14 @@ use Rattle.prints.proofs.print.put_all.Tie as tie
 filled-requires : tie.Need-filled-requires
 filled-requires c κs = search needs
 
-array-borrow-prefix-room : tie.Need-array-borrow-prefix-room
-array-borrow-prefix-room c = search needs
+array-borrow-prefix-lent : tie.Need-array-borrow-prefix-lent
+array-borrow-prefix-lent c = search needs
 
 slice-aggregate-put-printed : tie.Need-slice-aggregate-put-printed
 slice-aggregate-put-printed c =
     let s = c .before .before .before .before .before in
     let f = c .before .filled in
-    sym (length-take-le _ (f .result) (subst (λ (k : ℕ). s .args .most ≤ k) (f .ensures .1) (s .pre)))
+    sym (length-take-le _ (f .result) (subst (λ (k : ℕ). s .args .room ≤ k) (f .ensures .1) (s .pre)))
 
 put-printed-requires : tie.Need-put-printed-requires
 put-printed-requires c κs = search needs
@@ -32,7 +32,7 @@ put-all-spec =
     tie.close
     (tie.spec
     filled-requires
-    array-borrow-prefix-room
+    array-borrow-prefix-lent
     slice-aggregate-put-printed
     put-printed-requires
     same-length
