@@ -1,6 +1,7 @@
 // Prints policies that anyone may have made, one a line, for tests and for support. A line has eight fields with tabs between them: a text in
 // hex, the form, the list kind, the counts of the three lists, the words of the span table with commas between them, and how many bytes of
-// output are lent, filled with 0xA5. The answer is the five numbers of `print_policy` with commas between them, a tab, and the whole output in hex.
+// output are lent, filled with 0xA5. The answer is the five numbers of `print_policy` with commas between them, a tab, and the whole output in
+// hex; `bad line` where the line is none of these, or asks for more than 16,384 bytes of text, 1,024 words or 16,384 bytes of output.
 mod line;
 mod print;
 
