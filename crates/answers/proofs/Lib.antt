@@ -1,2 +1,2 @@
--- Lemmas on the fields' definitions.
-mod Fields
+-- Lemmas on what the contracts cite.
+mod Words

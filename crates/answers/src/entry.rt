@@ -1,26 +1,18 @@
 // The entries called on what a request lends, and their fields.
 ghost use mathlib.Core.Path.{_≡_};
-ghost use Prim.Native.Nat.{_≤_, _<_};
+ghost use Prim.Native.Nat.{_≤_};
 ghost use lib.ListN.{length};
-use crate::field;
+use crate::every;
 use ast_mapping::PolicyAnswer;
+use lines::FILL_BYTE;
 
 const FILL: u32 = 0xA5A5_A5A5;
 
-const FILL_BYTE: u8 = 0xA5;
-
-// The words that a table is lent from. The `ensures` of the two gives the length, which lending a part needs.
+// The words that a table is lent from. The `ensures` gives the length, which lending a part needs.
 fn lent_words() -> [u32; 4096]
     ensures { λ r. ⌜ 4096 ≡ length r ⌝ }
 {
     [FILL; 4096]
-}
-
-// The bytes that an output is lent from.
-fn lent_bytes() -> [u8; 16384]
-    ensures { λ r. ⌜ 16384 ≡ length r ⌝ }
-{
-    [FILL_BYTE; 16384]
 }
 
 // Whether the words after the used ones are as document 01 says: 0 up to the counted words, the others as lent.
@@ -33,8 +25,8 @@ fn is_clean(table: &[u32], used: usize, most: usize, refusal: u32) -> bool {
     if table.len() < counted {
         return false;
     }
-    if field::all_are(table, used, counted, 0) {
-        return field::all_are(table, counted, table.len(), FILL);
+    if every::all_are(table, used, counted, 0) {
+        return every::all_are(table, counted, table.len(), FILL);
     }
     false
 }
@@ -44,9 +36,9 @@ fn put_clean(out: &mut [u8], at: usize, clean: bool) -> usize
     ensures { λ r. ⌜ r ≤ length (now (out .exit)) ⌝ }
 {
     if clean {
-        return field::put(out, at, b"clean");
+        return lines::put(out, at, b"clean");
     }
-    field::put(out, at, b"dirty")
+    lines::put(out, at, b"dirty")
 }
 
 // The words of that many rows, as far as the table has them.
@@ -72,11 +64,11 @@ fn put_tree(text: &[u8], table: &mut [u32], out: &mut [u8], at: usize) -> usize
 {
     let a = parser::read_tree(text, table);
     let numbers = [a.refusal, a.name, a.kind, a.place, a.nodes, a.depth];
-    let end = field::put_words(out, at, &numbers, 6);
-    let end = field::put(out, end, b"\t");
+    let end = lines::put_words(out, at, &numbers, 6);
+    let end = lines::put(out, end, b"\t");
     let rows = rows_in(table, a.nodes);
-    let end = field::put_words(out, end, table, rows);
-    let end = field::put(out, end, b"\t");
+    let end = lines::put_words(out, end, table, rows);
+    let end = lines::put(out, end, b"\t");
     put_clean(
         out,
         end,
@@ -104,11 +96,11 @@ fn put_read(read: PolicyAnswer, nodes: &[u32], spans: &[u32], out: &mut [u8], at
         p.query,
         p.response,
     ];
-    let end = field::put_words(out, at, &numbers, 11);
-    let end = field::put(out, end, b"\t");
+    let end = lines::put_words(out, at, &numbers, 11);
+    let end = lines::put(out, end, b"\t");
     let used = spans_in(spans, p.request, p.query, p.response);
-    let end = field::put_words(out, end, spans, used);
-    let end = field::put(out, end, b"\t");
+    let end = lines::put_words(out, end, spans, used);
+    let end = lines::put(out, end, b"\t");
     let rows = rows_in(nodes, a.nodes);
     if is_clean(nodes, rows, parser::NODE_WORDS, a.refusal) {
         return put_clean(
@@ -130,74 +122,92 @@ fn put_policy(text: &[u8], nodes: &mut [u32], spans: &mut [u32], out: &mut [u8],
 }
 
 // The three fields of the host's entry on a text and an output that is lent.
-fn put_canonical(text: &[u8], room: &mut [u8], out: &mut [u8], at: usize) -> usize
+fn put_canonical(text: &[u8], lent: &mut [u8], out: &mut [u8], at: usize) -> usize
     requires { ⌜ at ≤ length (now out) ⌝ }
     ensures { λ r. ⌜ r ≤ length (now (out .exit)) ⌝ }
 {
-    let answer = host::canonicalise(text, room);
-    let end = field::put_number(out, at, answer);
-    let end = field::put(out, end, b"\t");
-    let used = bytes_in(room, answer);
-    let end = field::put_hex(out, end, room, used);
-    let end = field::put(out, end, b"\t");
+    let answer = host::canonicalise(text, lent);
+    let end = lines::put_number(out, at, answer);
+    let end = lines::put(out, end, b"\t");
+    let used = bytes_in(lent, answer);
+    let end = lines::put_hex(out, end, lent, used);
+    let end = lines::put(out, end, b"\t");
     put_clean(
         out,
         end,
-        field::all_bytes_are(room, used, room.len(), FILL_BYTE),
+        every::all_bytes_are(lent, used, lent.len(), FILL_BYTE),
     )
 }
 
 // The bytes that an answer says are printed: none where it refuses.
-fn bytes_in(room: &[u8], answer: u32) -> usize
-    ensures { λ r. ⌜ r ≤ length (now (room .entry)) ⌝ }
+fn bytes_in(lent: &[u8], answer: u32) -> usize
+    ensures { λ r. ⌜ r ≤ length (now (lent .entry)) ⌝ }
 {
     if answer >= host::REFUSED {
         return 0;
     }
     let n = answer as usize;
-    if n <= room.len() { n } else { room.len() }
+    if n <= lent.len() { n } else { lent.len() }
 }
 
-fn tree_fields(text: &[u8], words: usize, out: &mut [u8], at: usize) -> usize
+fn tree_fields(text: &[u8], nodewords: usize, out: &mut [u8], at: usize) -> usize
     requires { ⌜ at ≤ length (now out) ⌝ }
-    requires { ⌜ words ≤ 4096 ⌝ }
+    requires { ⌜ nodewords ≤ 4096 ⌝ }
     ensures { λ r. ⌜ r ≤ length (now (out .exit)) ⌝ }
 {
     let mut table = lent_words();
-    put_tree(text, &mut table[..words], out, at)
+    put_tree(text, &mut table[..nodewords], out, at)
 }
 
-fn policy_fields(text: &[u8], words: usize, pairs: usize, out: &mut [u8], at: usize) -> usize
+fn policy_fields(
+    text: &[u8],
+    nodewords: usize,
+    spanwords: usize,
+    out: &mut [u8],
+    at: usize,
+) -> usize
     requires { ⌜ at ≤ length (now out) ⌝ }
-    requires { ⌜ words ≤ 4096 ⌝ }
-    requires { ⌜ pairs ≤ 4096 ⌝ }
+    requires { ⌜ nodewords ≤ 4096 ⌝ }
+    requires { ⌜ spanwords ≤ 4096 ⌝ }
     ensures { λ r. ⌜ r ≤ length (now (out .exit)) ⌝ }
 {
     let mut nodes = lent_words();
     let mut spans = lent_words();
-    put_policy(text, &mut nodes[..words], &mut spans[..pairs], out, at)
+    put_policy(
+        text,
+        &mut nodes[..nodewords],
+        &mut spans[..spanwords],
+        out,
+        at,
+    )
 }
 
-fn canonical_fields(text: &[u8], most: usize, out: &mut [u8], at: usize) -> usize
+fn canonical_fields(text: &[u8], room: usize, out: &mut [u8], at: usize) -> usize
     requires { ⌜ at ≤ length (now out) ⌝ }
-    requires { ⌜ most ≤ 16384 ⌝ }
+    requires { ⌜ room ≤ 16384 ⌝ }
     ensures { λ r. ⌜ r ≤ length (now (out .exit)) ⌝ }
 {
-    let mut room = lent_bytes();
-    put_canonical(text, &mut room[..most], out, at)
+    let mut lent = lines::filled(FILL_BYTE);
+    put_canonical(text, &mut lent[..room], out, at)
 }
 
 // The nine fields of a text, for that many node words, span words and output bytes, and the line end.
-pub(crate) fn put_all(text: &[u8], words: usize, pairs: usize, most: usize, out: &mut [u8]) -> usize
-    requires { ⌜ words ≤ 4096 ⌝ }
-    requires { ⌜ pairs ≤ 4096 ⌝ }
-    requires { ⌜ most ≤ 16384 ⌝ }
+pub(crate) fn put_all(
+    text: &[u8],
+    nodewords: usize,
+    spanwords: usize,
+    room: usize,
+    out: &mut [u8],
+) -> usize
+    requires { ⌜ nodewords ≤ 4096 ⌝ }
+    requires { ⌜ spanwords ≤ 4096 ⌝ }
+    requires { ⌜ room ≤ 16384 ⌝ }
     ensures { λ r. ⌜ r ≤ length (now (out .exit)) ⌝ }
 {
-    let end = tree_fields(text, words, out, 0);
-    let end = field::put(out, end, b"\t");
-    let end = policy_fields(text, words, pairs, out, end);
-    let end = field::put(out, end, b"\t");
-    let end = canonical_fields(text, most, out, end);
-    field::put(out, end, b"\n")
+    let end = tree_fields(text, nodewords, out, 0);
+    let end = lines::put(out, end, b"\t");
+    let end = policy_fields(text, nodewords, spanwords, out, end);
+    let end = lines::put(out, end, b"\t");
+    let end = canonical_fields(text, room, out, end);
+    lines::put(out, end, b"\n")
 }

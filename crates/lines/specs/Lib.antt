@@ -1,1 +1,3 @@
-pub mod Within
+pub mod Fields
+pub mod Input
+pub mod Pieces

@@ -8,6 +8,7 @@ use parser::ARRAY;
 use parser::FUNCTION;
 use parser::OBJECT;
 use parser::STRING;
+use parser::SYNTAX;
 
 fn put_name(out: &mut [u8], at: usize, name: u32) -> usize
     requires { ⌜ at ≤ length (now out) ⌝ }
@@ -52,7 +53,7 @@ fn put_error(out: &mut [u8], refusal: u32) -> usize
     ensures { λ r. ⌜ r ≤ length (now (out .exit)) ⌝ }
 {
     match refusal {
-        4 => put(out, 0, b"CelSyntaxException"),
+        SYNTAX => put(out, 0, b"CelSyntaxException"),
         7 => put(out, 0, b"UnexpectedNodeType"),
         8 => put(out, 0, b"UnexpectedNodeName"),
         9 => put(out, 0, b"MissingFunctionParameter"),

@@ -6,14 +6,14 @@ use lib.Seq.{length-take-le}
 use Rattle.answers.proofs.entry.canonical_fields.Statement.{statement}
 use Rattle.answers.proofs.entry.canonical_fields.Tie as tie
 
-lent-bytes-requires : tie.Need-lent-bytes-requires
-lent-bytes-requires c κs = search needs
+filled-requires : tie.Need-filled-requires
+filled-requires c κs = search needs
 
-array-borrow-prefix-room : tie.Need-array-borrow-prefix-room
-array-borrow-prefix-room c = search needs
+array-borrow-prefix-lent : tie.Need-array-borrow-prefix-lent
+array-borrow-prefix-lent c = search needs
 
 slice-aggregate-put-canonical : tie.Need-slice-aggregate-put-canonical
-slice-aggregate-put-canonical c = sym (length-take-le _ (c .before .lent-bytes .result) (subst (λ (k : ℕ). c .before .before .before .before .args .most ≤ k) (c .before .lent-bytes .ensures) (c .before .before .before .before .pre .1)))
+slice-aggregate-put-canonical c = sym (length-take-le _ (c .before .filled .result) (subst (λ (k : ℕ). c .before .before .before .before .args .room ≤ k) (c .before .filled .ensures .1) (c .before .before .before .before .pre .1)))
 
 put-canonical-requires : tie.Need-put-canonical-requires
 put-canonical-requires c κs = search needs
@@ -28,8 +28,8 @@ pub canonical-fields-spec : {M : Type 1} → statement M
 canonical-fields-spec =
     tie.close
     (tie.spec
-    lent-bytes-requires
-    array-borrow-prefix-room
+    filled-requires
+    array-borrow-prefix-lent
     slice-aggregate-put-canonical
     put-canonical-requires
     same-length

@@ -16,13 +16,13 @@ array-borrow-prefix-nodes : tie.Need-array-borrow-prefix-nodes
 array-borrow-prefix-nodes c = search needs
 
 slice-aggregate-put-policy : tie.Need-slice-aggregate-put-policy
-slice-aggregate-put-policy c = sym (length-take-le _ (c .before .before .lent-words .result) (subst (λ (k : ℕ). c .before .before .before .before .before .args .words ≤ k) (c .before .before .lent-words .ensures) (c .before .before .before .before .before .pre .1 .0)))
+slice-aggregate-put-policy c = sym (length-take-le _ (c .before .before .lent-words .result) (subst (λ (k : ℕ). c .before .before .before .before .before .args .nodewords ≤ k) (c .before .before .lent-words .ensures) (c .before .before .before .before .before .pre .1 .0)))
 
 array-borrow-prefix-spans : tie.Need-array-borrow-prefix-spans
 array-borrow-prefix-spans c = search needs
 
 slice-aggregate-put-policy-2 : tie.Need-slice-aggregate-put-policy-2
-slice-aggregate-put-policy-2 c = sym (length-take-le _ (c .before .before .lent-words2 .result) (subst (λ (k : ℕ). c .before .before .before .before .before .before .args .pairs ≤ k) (c .before .before .lent-words2 .ensures) (c .before .before .before .before .before .before .pre .1 .1)))
+slice-aggregate-put-policy-2 c = sym (length-take-le _ (c .before .before .lent-words2 .result) (subst (λ (k : ℕ). c .before .before .before .before .before .before .args .spanwords ≤ k) (c .before .before .lent-words2 .ensures) (c .before .before .before .before .before .before .pre .1 .1)))
 
 put-policy-requires : tie.Need-put-policy-requires
 put-policy-requires c κs = search needs

@@ -13,7 +13,7 @@ array-borrow-prefix-table : tie.Need-array-borrow-prefix-table
 array-borrow-prefix-table c = search needs
 
 slice-aggregate-put-tree : tie.Need-slice-aggregate-put-tree
-slice-aggregate-put-tree c = sym (length-take-le _ (c .before .lent-words .result) (subst (λ (k : ℕ). c .before .before .before .before .args .words ≤ k) (c .before .lent-words .ensures) (c .before .before .before .before .pre .1)))
+slice-aggregate-put-tree c = sym (length-take-le _ (c .before .lent-words .result) (subst (λ (k : ℕ). c .before .before .before .before .args .nodewords ≤ k) (c .before .lent-words .ensures) (c .before .before .before .before .pre .1)))
 
 put-tree-requires : tie.Need-put-tree-requires
 put-tree-requires c κs = search needs

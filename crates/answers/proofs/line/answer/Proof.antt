@@ -1,15 +1,14 @@
 -- `line::answer` is safe, and ends within out: what a request asks for is within the room. Assumes nothing.
 use mathlib.Core.Path.{sym, subst}
-use Prim.Native.Nat.{ℕ, _≤_}
 use borrow.Author.Needs.{needs}
 use lib.ListN.{length}
 use lib.Seq.{length-take-le}
-use Rattle.answers.specs.Fields.{Fitting}
+use Rattle.answers.specs.Request.{Fitting}
 use Rattle.answers.proofs.line.answer.Statement.{statement}
 use Rattle.answers.proofs.line.answer.Tie as tie
 
-text-room-requires : tie.Need-text-room-requires
-text-room-requires c κs = search needs
+filled-requires : tie.Need-filled-requires
+filled-requires c κs = search needs
 
 slice-aggregate-requested : tie.Need-slice-aggregate-requested
 slice-aggregate-requested c = search needs
@@ -23,11 +22,8 @@ enum-known-asked c = search needs
 enum-told : tie.Need-enum-told
 enum-told c = search needs
 
-slice-aggregate-put : tie.Need-slice-aggregate-put
-slice-aggregate-put c = search needs
-
-put-requires : tie.Need-put-requires
-put-requires c κs = search needs
+put-bad-requires : tie.Need-put-bad-requires
+put-bad-requires c κs = search needs
 
 same-length : tie.Need-same-length
 same-length c = search needs
@@ -54,13 +50,12 @@ pub answer-spec : {M : Type 1} → statement M
 answer-spec =
     tie.close
     (tie.spec
-    text-room-requires
+    filled-requires
     slice-aggregate-requested
     requested-requires
     enum-known-asked
     enum-told
-    slice-aggregate-put
-    put-requires
+    put-bad-requires
     same-length
     returns
     array-share-prefix-text

@@ -1,9 +1,9 @@
 -- `line::requested` meets its contract: each field's promise, one after the other. Assumes nothing.
 use mathlib.Core.Path.{sym, subst}
 use borrow.Author.Needs.{needs}
-use lib.ListN.{length, take}
+use lib.ListN.{length}
 use lib.Seq.{length-take-le}
-use Rattle.answers.specs.Fields.{Within, Unhexed}
+use Rattle.lines.specs.Fields.{Within, AtMost}
 use Rattle.answers.proofs.line.requested.Statement.{statement}
 use Rattle.answers.proofs.line.requested.Tie as tie
 use native.Mathlib.Omega.{arith}
@@ -32,8 +32,8 @@ returns c = search needs
 number-field-requires : tie.Need-number-field-requires
 number-field-requires c κs = search needs
 
-enum-known-nodes : tie.Need-enum-known-nodes
-enum-known-nodes c = search needs
+enum-known-words : tie.Need-enum-known-words
+enum-known-words c = search needs
 
 enum-told-2 : tie.Need-enum-told-2
 enum-told-2 c = search needs
@@ -45,10 +45,10 @@ returns-2 : tie.Need-returns-2
 returns-2 c = search needs
 
 number-field-requires-2 : tie.Need-number-field-requires-2
-number-field-requires-2 c κs = (subst (Within (length (c .before .before .before .before .before .before .before .before .before .before .before .before .before .before .before .args .line .now)) 4096) (c .before .nodes .given .1) (c .before .before .before .number-field .ensures) .1, omega arith)
+number-field-requires-2 c κs = (subst (Within (length (c .before .before .before .before .before .before .before .before .before .before .before .before .before .before .before .args .line .now)) 4096) (c .before .words .given .1) (c .before .before .before .number-field .ensures) .1, omega arith)
 
-enum-known-spans : tie.Need-enum-known-spans
-enum-known-spans c = search needs
+enum-known-words-2 : tie.Need-enum-known-words-2
+enum-known-words-2 c = search needs
 
 enum-told-3 : tie.Need-enum-told-3
 enum-told-3 c = search needs
@@ -60,10 +60,10 @@ returns-3 : tie.Need-returns-3
 returns-3 c = search needs
 
 number-field-requires-3 : tie.Need-number-field-requires-3
-number-field-requires-3 c κs = (subst (Within (length (c .before .before .before .before .before .before .before .before .before .before .before .before .before .before .before .before .before .before .before .args .line .now)) 4096) (c .before .spans .given .1) (c .before .before .before .number-field2 .ensures) .1, omega arith)
+number-field-requires-3 c κs = (subst (Within (length (c .before .before .before .before .before .before .before .before .before .before .before .before .before .before .before .before .before .before .before .args .line .now)) 4096) (c .before .words2 .given .1) (c .before .before .before .number-field2 .ensures) .1, omega arith)
 
-enum-known-room : tie.Need-enum-known-room
-enum-known-room c = search needs
+enum-known-output : tie.Need-enum-known-output
+enum-known-output c = search needs
 
 enum-told-4 : tie.Need-enum-told-4
 enum-told-4 c = search needs
@@ -86,10 +86,10 @@ same-length-6 c = search needs
 returns-6 : tie.Need-returns-6
 returns-6 c =
     let a = c .before .before .before .before .before .before .before .before .before .before .before .before .before .before .before .before .before .before .before .before .before .before .before .before .args in (
-      subst (Unhexed (take (c .before .before .before .before .before .before .before .before .before .before .before .before .before .before .before .before .before .before .before .before .before .find .result) (a .line .now)) (c .before .before .before .before .before .before .before .before .before .before .before .before .before .before .before .before .before .before .unhex .last .1 .0)) (c .before .before .before .before .before .before .before .before .before .before .before .before .before .before .count .given .1) (c .before .before .before .before .before .before .before .before .before .before .before .before .before .before .before .before .before .before .unhex .ensures) .room,
-      subst (Within (length (a .line .now)) 4096) (c .before .before .before .before .before .before .before .before .before .before .nodes .given .1) (c .before .before .before .before .before .before .before .before .before .before .before .before .number-field .ensures) .0,
-      subst (Within (length (a .line .now)) 4096) (c .before .before .before .before .before .before .spans .given .1) (c .before .before .before .before .before .before .before .before .number-field2 .ensures) .0,
-      subst (Within (length (a .line .now)) 16384) (c .before .before .room .given .1) (c .before .before .before .before .number-field3 .ensures) .0,
+      subst (AtMost (length (c .before .before .before .before .before .before .before .before .before .before .before .before .before .before .before .before .before .before .unhex .last .1 .0))) (c .before .before .before .before .before .before .before .before .before .before .before .before .before .before .count .given .1) (c .before .before .before .before .before .before .before .before .before .before .before .before .before .before .before .before .before .before .unhex .ensures .1 .1),
+      subst (Within (length (a .line .now)) 4096) (c .before .before .before .before .before .before .before .before .before .before .words .given .1) (c .before .before .before .before .before .before .before .before .before .before .before .before .number-field .ensures) .0,
+      subst (Within (length (a .line .now)) 4096) (c .before .before .before .before .before .before .words2 .given .1) (c .before .before .before .before .before .before .before .before .number-field2 .ensures) .0,
+      subst (Within (length (a .line .now)) 16384) (c .before .before .output .given .1) (c .before .before .before .before .number-field3 .ensures) .0,
     )
 
 pub requested-spec : {M : Type 1} → statement M
@@ -104,17 +104,17 @@ requested-spec =
     same-length
     returns
     number-field-requires
-    enum-known-nodes
+    enum-known-words
     enum-told-2
     same-length-2
     returns-2
     number-field-requires-2
-    enum-known-spans
+    enum-known-words-2
     enum-told-3
     same-length-3
     returns-3
     number-field-requires-3
-    enum-known-room
+    enum-known-output
     enum-told-4
     same-length-4
     returns-4

@@ -20,7 +20,7 @@ put-requires : tie.Need-put-requires Inv-loop μ-loop
 put-requires c κs = search needs
 
 loop-holds : tie.Need-loop-holds Inv-loop μ-loop
-loop-holds c = (c .before .before .put .ensures, refl)
+loop-holds c = (c .before .before .put .ensures .1, refl)
 
 same-length : tie.Need-same-length Inv-loop μ-loop
 same-length c = c .before .before .loop .inv .1 ∙ c .before .before .before .before .before .put .kept .0
