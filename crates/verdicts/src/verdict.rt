@@ -1,8 +1,8 @@
 // The judge's words for an answer. Each function writes from a place on and answers the place after what it wrote.
 ghost use Prim.Native.Nat.{_≤_};
 ghost use lib.ListN.{length};
-use ast_mapping::Policy;
 use ast_mapping::name;
+use create_cel_expr::Policy;
 use lines::put;
 use parser::ARRAY;
 use parser::FUNCTION;
@@ -80,8 +80,8 @@ fn put_form(out: &mut [u8], at: usize, form: u32) -> usize
     ensures { λ r. ⌜ r ≤ length (now (out .exit)) ⌝ }
 {
     match form {
-        ast_mapping::SKIP => put(out, at, b"\tSkip"),
-        ast_mapping::RESPONSE_ONLY => put(out, at, b"\tResponseOnly"),
+        create_cel_expr::SKIP => put(out, at, b"\tSkip"),
+        create_cel_expr::RESPONSE_ONLY => put(out, at, b"\tResponseOnly"),
         _ => put(out, at, b"\tFull"),
     }
 }
@@ -91,8 +91,8 @@ fn put_list_kind(out: &mut [u8], at: usize, kind: u32) -> usize
     ensures { λ r. ⌜ r ≤ length (now (out .exit)) ⌝ }
 {
     match kind {
-        ast_mapping::INCLUSIONS => put(out, at, b"\tinclusions"),
-        ast_mapping::EXCLUSIONS => put(out, at, b"\texclusions"),
+        create_cel_expr::INCLUSIONS => put(out, at, b"\tinclusions"),
+        create_cel_expr::EXCLUSIONS => put(out, at, b"\texclusions"),
         _ => put(out, at, b"\tnone"),
     }
 }
@@ -218,14 +218,7 @@ fn put_accepted(out: &mut [u8], policy: Policy, text: &[u8], spans: &[u32]) -> u
     ensures { λ r. ⌜ r ≤ length (now (out .exit)) ⌝ }
 {
     let mut printed = [0u8; 8192];
-    let given = create_cel_expr::Policy {
-        form: policy.form,
-        kind: policy.kind,
-        request: policy.request,
-        query: policy.query,
-        response: policy.response,
-    };
-    let print = create_cel_expr::print_policy(given, text, spans, &mut printed);
+    let print = create_cel_expr::print_policy(policy, text, spans, &mut printed);
     if print.refusal != 0 {
         return put_limit(out, print.refusal);
     }
