@@ -1,24 +1,25 @@
 -- From the value that a text begins with to the answer and the table of `read_tree`. Assumes nothing.
 use mathlib.Core.Path.{_≡_, refl, sym, ap, _∙_}
-use Prim.Native.Nat.{ℕ, _+_, _-_, _*_, _≤_, _<_}
-use native.Mathlib.Nat.{zero-add}
+use Prim.Native.Nat.{ℕ, zero, suc, _+_, _-_, _*_, _≤_, _<_}
+use native.Mathlib.Nat.{zero-add, sub-zero, zero-sub, suc-sub-suc}
 use native.Mathlib.Omega.{arith}
 use mathlib.Core.Bool.{Bool, true, false, cond}
 use mathlib.Core.List.{[], _++_, append-nil, append-assoc}
-use lib.ListN.{length, take, drop, replicate, drop-of-length-le, take-append-drop}
-use lib.Seq.{sets-eq, take-at, length-take-le}
+use lib.ListN.{length, take, drop, replicate, length-replicate, drop-of-length-le, take-append-drop}
+use lib.Seq.{sets-eq, length-take-le, take-all}
+use lib.Dec.{ltb}
 use borrow.Author.Tests.{lt-ltb, le-ltb, ne-eqb, le-leb}
 use Rattle.cel_text.specs.Byte.{Text, ascii, lead, stringByte}
 use Rattle.cel_text.specs.Tree.{Tree, nodes, unkeyed}
-use Rattle.cel_text.specs.Reading.{Fault, syntax, tooDeep, tooMany, root, read, limits}
+use Rattle.cel_text.specs.Reading.{Fault, syntax, tooDeep, tooMany, Outcome, accepted, refused, root, read, limits}
 use Rattle.cel_text.specs.Table.{Words, rows, Left, untouched, cleared, filled, hold, nodesLeft, nodeWords}
-use Rattle.cel_text.specs.Laws.Class.{same-either-way}
+use Rattle.cel_text.specs.Laws.Class.{by-test, same-either-way}
 use Rattle.cel_text.specs.Answer.{Found, tree, fault, found, findTree, nodesAfter, treeAnswer, treeTable, faultNumber, maxText}
 use Rattle.parser.specs.declared.Step.{Step}
 use Rattle.parser.specs.declared.Step.the-variants.{Next, Refused}
 use Rattle.parser.specs.Run.{endOf}
 use Rattle.parser.specs.Steps.{Valued}
-use Rattle.parser.specs.Found.{Finds, Small, answerOf, uses, spareFrom}
+use Rattle.parser.specs.Found.{Finds, Small, answerOf, uses, staleFrom}
 use Rattle.parser.proofs.Rows.{length-rowsOf}
 
 -- ---- refusals 2 and 3, and the value
@@ -86,8 +87,8 @@ find-answer x w w′ (Refused r p) f =
 left-cleared : (r : ℕ) → 1 < r → r ≤ 6 → nodesLeft r ≡ cleared
 left-cleared r h h′ = let some : r ≡ 1 → ⊥ = λ e. omega arith in rw (ne-eqb r 1 some, lt-ltb 1 r h, le-leb r 6 h′)
 
-spare-none : (r n : ℕ) → 1 < r → r ≤ 6 → spareFrom r n ≡ 0
-spare-none r n h h′ = let some : r ≡ 1 → ⊥ = λ e. omega arith in rw (ne-eqb r 1 some, le-leb 2 r (omega arith), le-leb r 6 h′)
+stale-all : (r : ℕ) → 1 < r → r ≤ 6 → staleFrom r ≡ 0
+stale-all r h h′ = rw (le-leb 2 r h, le-leb r 6 h′)
 
 drop-none : (w : Words) → length w ≡ nodeWords → drop nodeWords w ≡ []
 drop-none w h = let less : length w ≤ nodeWords = omega arith in drop-of-length-le w less
@@ -100,16 +101,53 @@ table-found x w f h e = ap (λ (n : ℕ). nodesAfter (findTree stringByte n x) w
 abbrev pub clearedFrom : Words → ℕ → Words
 clearedFrom w′ i = take i w′ ++ replicate (length w′ - i) 0
 
-pub find-table : (x : Text) (w w′ : Words) (s : Step) → Finds x w w′ s → length w ≡ nodeWords → length w′ ≡ nodeWords
-    → clearedFrom w′ (spareFrom (answerOf s .refusal) (answerOf s .nodes)) ≡ treeTable x w
-find-table x w w′ (Next q m d) f h h′ =
-    let t : Tree = f .found in
-    let long : length (rows t) ≡ 8 * m .0 = omega (arith, length-rowsOf t unkeyed 0 0, f .counts) in
-    let put : w′ ≡ rows t ++ drop (0 + length (rows t)) w = f .rows-put ∙ sets-eq (rows t) w 0 (omega (arith, f .room)) in
-    let front : take (8 * m .0) w′ ≡ rows t = rw put (take-at (rows t) (drop (0 + length (rows t)) w) (8 * m .0) long) in
-    rw (table-found x w (tree t (q .0)) h (f .finds), front, h′, long, drop-none w h, append-nil)
-find-table x w w′ (Refused r p) f h h′ =
-    rw (table-found x w (fault r (p .0)) h (f .finds), left-cleared r (f .low) (f .high), spare-none r (answerOf (Refused r p) .nodes) (f .low) (f .high), h′, drop-none w h)
+pub zeros-long : {w : Words} → w ≡ replicate nodeWords 0 → length w ≡ nodeWords
+zeros-long z = ap length z ∙ length-replicate {A = ℕ} nodeWords 0
+
+drop-zeros : (i n : ℕ) → drop {A = ℕ} i (replicate n 0) ≡ replicate (n - i) 0
+drop-zeros zero n = rw sub-zero
+drop-zeros (suc i) zero = rw zero-sub
+drop-zeros (suc i) (suc n) = rw suc-sub-suc (drop-zeros i n)
+
+clear-none : (w′ : Words) (n : ℕ) → length w′ ≡ n → clearedFrom w′ n ≡ w′
+clear-none w′ n h =
+    let none : length w′ - n ≡ 0 = omega arith in
+    rw (none, take-all n w′ (omega arith)) (append-nil w′)
+
+-- w is a table of the counted words, all 0
+module _ (x : Text) (w : Words) (z : w ≡ replicate nodeWords 0) where
+  h : length w ≡ nodeWords
+  h = zeros-long z
+
+  pub find-table : (w′ : Words) (s : Step) → Finds x w w′ s → length w′ ≡ nodeWords → clearedFrom w′ (staleFrom (answerOf s .refusal)) ≡ treeTable x w
+  find-table w′ (Next q m d) f h′ =
+      let t : Tree = f .found in
+      let long : length (rows t) ≡ 8 * m .0 = omega (arith, length-rowsOf t unkeyed 0 0, f .counts) in
+      let put : w′ ≡ rows t ++ drop (0 + length (rows t)) w = f .rows-put ∙ sets-eq (rows t) w 0 (omega (arith, f .room, h)) in
+      let rest : drop (0 + length (rows t)) w ≡ replicate (nodeWords - length (rows t)) 0
+      = rw zero-add (ap (drop (length (rows t))) z ∙ drop-zeros (length (rows t)) nodeWords) in
+      clear-none w′ nodeWords h′ ∙ put ∙ rw (rest, table-found x w (tree t (q .0)) h (f .finds), drop-none w h, append-nil)
+  find-table w′ (Refused r p) f h′ =
+      rw (table-found x w (fault r (p .0)) h (f .finds), left-cleared r (f .low) (f .high), stale-all r (f .low) (f .high), h′, drop-none w h)
+
+-- what a table of the counted words held before does not matter
+module _ (x : Text) (v w : Words) (hv : length v ≡ nodeWords) (hw : length w ≡ nodeWords) where
+  abbrev Same : Found → Type 0
+  Same f = nodesAfter f v ≡ nodesAfter f w
+
+  same-outcome : (o : Outcome) → Same (found o)
+  same-outcome (accepted t q) = rw (drop-none v hv, drop-none w hw)
+  same-outcome (refused syntax p) = rw (drop-none v hv, drop-none w hw)
+  same-outcome (refused tooDeep p) = rw (drop-none v hv, drop-none w hw)
+  same-outcome (refused tooMany p) = rw (drop-none v hv, drop-none w hw)
+
+  pub table-same : treeTable x v ≡ treeTable x w
+  unfolding treeTable
+  table-same =
+      rw (hv, hw)
+      (by-test Same (ltb maxText (length x)) _ _ (λ e. rw (drop-none v hv, drop-none w hw)) (λ e.
+      by-test Same (ltb (lead ascii x) (length x)) _ _ (λ e. rw (drop-none v hv, drop-none w hw)) (λ e.
+      same-outcome (read stringByte limits x))))
 
 -- ---- a longer table
 

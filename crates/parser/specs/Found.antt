@@ -57,6 +57,6 @@ abbrev pub answerOf : Step → Answer
 answerOf (Next q m d) = uses 0 0 (m .0) d
 answerOf (Refused r p) = uses r (p .0) 0 0
 
--- the first of the counted words that a read with this refusal leaves 0
-abbrev pub spareFrom : (refusal nodes : ℕ) → ℕ
-spareFrom r n = cond (eqb r 1) nodeWords (cond (leb 2 r) (cond (leb r 6) 0 (8 * n)) (8 * n))
+-- the first of the counted words in which a read with this refusal may have left what does not belong there
+abbrev pub staleFrom : (refusal : ℕ) → ℕ
+staleFrom r = cond (leb 2 r) (cond (leb r 6) 0 nodeWords) nodeWords

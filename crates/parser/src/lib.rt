@@ -5,10 +5,10 @@ pub mod scan;
 mod value;
 
 ghost use mathlib.Core.Path.{_≡_};
-ghost use Prim.Native.Nat.{_≤_, _<_, _*_};
-ghost use lib.ListN.{length};
+ghost use Prim.Native.Nat.{_≤_, _<_};
+ghost use lib.ListN.{length, replicate};
 ghost use Rattle.cel_text.specs.Answer.{treeAnswer, treeTable};
-ghost use Rattle.parser.specs.Found.{told, Finds, Small, answerOf, uses, spareFrom};
+ghost use Rattle.parser.specs.Found.{told, Finds, Small, answerOf, uses, staleFrom};
 
 // A place in the text: how many bytes stand before it.
 pub struct Place(pub usize);
@@ -84,9 +84,19 @@ fn fill(text: &[u8], table: &mut [u32]) -> Answer
     ensures { λ r. ⌜ told r ≡ treeAnswer 2048 (now (text .entry)) ⌝ }
     ensures { λ r. ⌜ now (table .exit) ≡ treeTable (now (text .entry)) (now (table .entry)) ⌝ }
 {
+    row::clear(table, 0);
+    read_zeroed(text, table)
+}
+
+// The same for a table of 2,048 words that are all 0, so that those after the rows are so already.
+pub fn read_zeroed(text: &[u8], table: &mut [u32]) -> Answer
+    requires { ⌜ now table ≡ replicate 2048 0 ⌝ }
+    ensures answer { λ r. ⌜ told r ≡ treeAnswer 2048 (now (text .entry)) ⌝ }
+    ensures table { λ r. ⌜ now (table .exit) ≡ treeTable (now (text .entry)) (now (table .entry)) ⌝ }
+{
     let step = find(text, table);
     let answer = answer_of(step);
-    row::clear(table, spare(answer.refusal, answer.nodes as usize));
+    row::clear(table, stale(answer.refusal));
     answer
 }
 
@@ -157,14 +167,12 @@ fn answered(refusal: u32, place: Place, nodes: Node, depth: usize) -> Answer
     }
 }
 
-// The first of the counted words that a read with this refusal leaves 0.
-fn spare(refusal: u32, nodes: usize) -> usize
-    requires { ⌜ nodes ≤ 256 ⌝ }
-    ensures { λ r. ⌜ r ≡ spareFrom refusal nodes ⌝ }
+// The first of the counted words in which a read with this refusal may have left what does not belong there.
+fn stale(refusal: u32) -> usize
+    ensures { λ r. ⌜ r ≡ staleFrom refusal ⌝ }
 {
     match refusal {
-        TABLE_TOO_SHORT => NODE_WORDS,
         TEXT_TOO_LONG..=TOO_MANY => 0,
-        _ => ROW_WORDS * nodes,
+        _ => NODE_WORDS,
     }
 }

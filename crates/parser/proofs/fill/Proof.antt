@@ -1,44 +1,26 @@
--- `fill` meets its contract: what was found gives the answer, and the answer says from where on the table is cleared. Assumes nothing.
-use mathlib.Core.Path.{sym, ap, subst, _∙_}
-use Prim.Native.Nat.{_≤_}
+-- `fill` meets its contract: what the table held before it was cleared does not matter. Assumes nothing.
+use mathlib.Core.Path.{_≡_, ap, _∙_}
+use Prim.Native.Nat.{ℕ, _-_}
+use lib.ListN.{length, replicate}
+use native.Mathlib.Omega.{arith}
+use Rattle.parser.proofs.Answers.{table-same}
 use borrow.Author.Needs.{needs}
-use Rattle.cel_text.specs.Answer.{Answer}
-use Rattle.parser.specs.Found.{spareFrom}
-use Rattle.parser.proofs.Answers.{small, small-nodes, find-answer, find-table, clearedFrom}
 use Rattle.parser.proofs.fill.Statement.{statement}
 use Rattle.parser.proofs.fill.Tie as tie
 
-find-requires : tie.Need-find-requires
-find-requires c κs = search needs
-
-answer-of-requires : tie.Need-answer-of-requires
-answer-of-requires c κs =
-    let a = c .before .before .before .before .before .before .args in
-    small (a .text .now) (a .table .now) (c .before .before .find .last .1 .0) (c .before .before .find .result) (c .before .before .find .ensures)
-
-cast-spare : tie.Need-cast-spare
-cast-spare c = search needs
-
-spare-requires : tie.Need-spare-requires
-spare-requires c κs = subst (λ (a : Answer). a .nodes ≤ 256) (sym (c .before .before .answer-of .ensures)) (small-nodes (c .before .before .before .before .before .find .result) (small (c .before .before .before .before .before .before .before .before .before .args .text .now) (c .before .before .before .before .before .before .before .before .before .args .table .now) (c .before .before .before .before .before .find .last .1 .0) (c .before .before .before .before .before .find .result) (c .before .before .before .before .before .find .ensures)))
-
 clear-requires : tie.Need-clear-requires
 clear-requires c κs = search needs
+
+read-zeroed-requires : tie.Need-read-zeroed-requires
+read-zeroed-requires c κs =
+    let all : length (c .before .before .before .before .before .before .before .args .table .now) - 0 ≡ 2048 = omega (arith, c .before .before .before .before .before .before .before .pre) in
+    c .before .before .before .clear .ensures ∙ ap (λ (n : ℕ). replicate n 0) all
 
 same-length : tie.Need-same-length
 same-length c = search needs
 
 returns : tie.Need-returns
-returns c = (c .before .before .before .before .before .before .answer-of .ensures ∙ find-answer (c .before .before .before .before .before .before .before .before .before .before .before .before .before .args .text .now) (c .before .before .before .before .before .before .before .before .before .before .before .before .before .args .table .now) (c .before .before .before .before .before .before .before .before .before .find .last .1 .0) (c .before .before .before .before .before .before .before .before .before .find .result) (c .before .before .before .before .before .before .before .before .before .find .ensures), c .before .before .clear .ensures ∙ ap (clearedFrom (c .before .before .before .before .before .before .before .before .before .find .last .1 .0)) (c .before .before .before .spare .ensures ∙ ap (λ (a : Answer). spareFrom (a .refusal) (a .nodes)) (c .before .before .before .before .before .before .answer-of .ensures)) ∙ find-table (c .before .before .before .before .before .before .before .before .before .before .before .before .before .args .text .now) (c .before .before .before .before .before .before .before .before .before .before .before .before .before .args .table .now) (c .before .before .before .before .before .before .before .before .before .find .last .1 .0) (c .before .before .before .before .before .before .before .before .before .find .result) (c .before .before .before .before .before .before .before .before .before .find .ensures) (c .before .before .before .before .before .before .before .before .before .before .before .before .before .pre) (c .before .before .before .before .before .before .before .before .before .find .kept .1 .0 ∙ c .before .before .before .before .before .before .before .before .before .before .before .before .before .pre))
+returns c = (c .before .before .read-zeroed .ensures .0, c .before .before .read-zeroed .ensures .1 ∙ table-same (c .before .before .before .before .before .before .before .before .before .before .args .text .now) (c .before .before .before .before .before .before .clear .last .0) (c .before .before .before .before .before .before .before .before .before .before .args .table .now) (c .before .before .before .before .before .before .clear .kept .0 ∙ c .before .before .before .before .before .before .before .before .before .before .pre) (c .before .before .before .before .before .before .before .before .before .before .pre))
 
 pub fill-spec : {M : Type 1} → statement M
-fill-spec =
-    tie.close
-    (tie.spec
-    find-requires
-    answer-of-requires
-    cast-spare
-    spare-requires
-    clear-requires
-    same-length
-    returns)
+fill-spec = tie.close (tie.spec clear-requires read-zeroed-requires same-length returns)
