@@ -7,11 +7,12 @@ use lib.ListN.{length}
 use lib.Seq.{sets}
 use lib.Dec.{eqb, leb}
 use Rattle.cel_text.specs.Table.{Words, cleared, filled, hold}
-use Rattle.cel_text.specs.Answer.{Answer}
+use Rattle.cel_text.specs.Byte.{Text}
+use Rattle.cel_text.specs.Answer.{Answer, treeAnswer, treeTable}
 use Rattle.cel_policy.specs.Policy.{Span, Policy, Counted, counted, noPolicy, allStrings}
 use Rattle.cel_policy.specs.Mapping.{Mapped, good, bad}
 use Rattle.cel_policy.specs.Spans.{spanRows, spanTable, spanWords}
-use Rattle.cel_policy.specs.Answers.{PolicyAnswer}
+use Rattle.cel_policy.specs.Answers.{PolicyAnswer, policyAnswer, policyNodes, policySpans}
 use Rattle.parser.specs.Found.{told}
 use Rattle.create_cel_expr.specs.declared.Policy.{Policy as Numbers}
 use Rattle.create_cel_expr.specs.Given.{numbers as given}
@@ -75,3 +76,15 @@ pub record Settled (m : Mapped (Policy Span)) (tree : Tree-answer) (s s′ : Wor
   pub answer : told (r .answer) ≡ settledAnswer (told tree) m
   pub counts : given (r .policy) ≡ numbers m
   pub spans : s′ ≡ settledSpans m s
+
+-- a tree's answer and its table, from some lent table
+pub record TreeRead (x : Text) (tree : Tree-answer) (nodes : Words) : Type 0 where
+  pub lent : Words
+  pub answer : told tree ≡ treeAnswer (length lent) x
+  pub table : nodes ≡ treeTable x lent
+
+-- the answer, and both tables, whatever was lent
+abbrev pub PolicyRead : Text → (tree : Tree-answer) → (nodes spans spans′ : Words) → Told-answer → Type 0
+PolicyRead x tree nodes spans spans′ r =
+    (lent : Words) → told tree ≡ treeAnswer (length lent) x → nodes ≡ treeTable x lent
+    → (policyTold r ≡ policyAnswer (length lent) (length spans) x) × ((nodes ≡ policyNodes x lent spans) × (spans′ ≡ policySpans x lent spans))

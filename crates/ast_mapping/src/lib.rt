@@ -9,9 +9,10 @@ mod span;
 use create_cel_expr::Policy;
 use parser::Answer;
 ghost use mathlib.Core.Path.{_≡_};
-ghost use lib.ListN.{length};
+ghost use Prim.Native.Nat.{_≤_};
+ghost use lib.ListN.{length, replicate};
 ghost use Rattle.cel_policy.specs.Answers.{unread, policyAnswered, policyAnswer, policyNodes, policySpans};
-ghost use Rattle.ast_mapping.specs.Spans.{policyTold};
+ghost use Rattle.ast_mapping.specs.Spans.{policyTold, TreeRead, PolicyRead};
 
 // Document 01's answer of reading a policy.
 pub struct PolicyAnswer {
@@ -31,6 +32,27 @@ pub fn read_policy(text: &[u8], nodes: &mut [u32], spans: &mut [u32]) -> PolicyA
         return too_short();
     }
     let tree = parser::read_tree(text, nodes);
+    read_on(text, tree, nodes, spans)
+}
+
+// The same for a node table of 2,048 words that are all 0, and a span table that is long enough.
+pub fn read_zeroed(text: &[u8], nodes: &mut [u32], spans: &mut [u32]) -> PolicyAnswer
+    requires { ⌜ now nodes ≡ replicate 2048 0 ⌝ }
+    requires { ⌜ 512 ≤ length (now spans) ⌝ }
+    ensures answer { λ r. ⌜ policyTold r ≡ policyAnswer (length (now (nodes .entry))) (length (now (spans .entry))) (now (text .entry)) ⌝ }
+    ensures nodes { λ r. ⌜ now (nodes .exit) ≡ policyNodes (now (text .entry)) (now (nodes .entry)) (now (spans .entry)) ⌝ }
+    ensures spans { λ r. ⌜ now (spans .exit) ≡ policySpans (now (text .entry)) (now (nodes .entry)) (now (spans .entry)) ⌝ }
+{
+    let tree = parser::read_zeroed(text, nodes);
+    read_on(text, tree, nodes, spans)
+}
+
+// From the tree's answer and its table to the policy.
+fn read_on(text: &[u8], tree: Answer, nodes: &[u32], spans: &mut [u32]) -> PolicyAnswer
+    requires { ⌜ TreeRead (now text) tree (now nodes) ⌝ }
+    requires { ⌜ 512 ≤ length (now spans) ⌝ }
+    ensures { λ r. ⌜ PolicyRead (now (text .entry)) tree (now (nodes .entry)) (now (spans .entry)) (now (spans .exit)) r ⌝ }
+{
     let refusal = tree.refusal;
     if refusal != 0 {
         parser::row::clear(&mut spans[..SPAN_WORDS], span::spare(refusal, 0));
