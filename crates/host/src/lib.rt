@@ -13,7 +13,7 @@ pub fn canonicalise(text: &[u8], out: &mut [u8]) -> u32
 {
     let mut nodes = [0u32; 2048];
     let mut spans = [0u32; 512];
-    let read = ast_mapping::read_policy(text, &mut nodes, &mut spans);
+    let read = ast_mapping::read_zeroed(text, &mut nodes, &mut spans);
     let answer = read.answer;
     if answer.refusal != 0 {
         return REFUSED + answer.refusal;
