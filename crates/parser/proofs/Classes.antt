@@ -7,8 +7,12 @@ use mathlib.Core.Bool.{Bool, true, false, not, cond, _&&_, _||_}
 use mathlib.Core.Logic.{⊎-elim}
 use lib.Dec.{eqb, leb}
 use lib.Bits.{bitOr}
-use Rattle.cel_text.specs.Byte.{alphanumeric, identByte, stringByte}
-use Rattle.parser.specs.Run.{letter, digit}
+use Rattle.cel_text.specs.Byte.{blank, alphanumeric, identByte, stringByte}
+use Rattle.parser.specs.Run.{space, letter, digit}
+
+pub space-blank : (b : ℕ) → space b ≡ true → blank b ≡ true
+unfolding blank
+space-blank b h = rw h
 
 -- letters and digits are what both classes share
 module _ (b : ℕ) where

@@ -1,12 +1,12 @@
 -- Where a run of a class of bytes ends. Assumes nothing.
 use mathlib.Core.Path.{_≡_, refl, sym, ap, subst, _∙_}
-use Prim.Native.Nat.{ℕ, zero, suc, _≤_, _<_}
+use Prim.Native.Nat.{ℕ, zero, suc, _+_, _≤_, _<_}
 use native.Mathlib.Nat.{add-zero, zero-add}
 use native.Mathlib.Omega.{arith}
 use mathlib.Core.Bool.{Bool, true, false}
 use mathlib.Core.List.{[], _∷_}
 use lib.ListN.{length, drop, getD, drop-of-length-le, length-drop}
-use lib.Seq.{drop-cons, getD-drop}
+use lib.Seq.{drop-cons, drop-drop, getD-drop}
 use lib.Dec.{T}
 use borrow.Author.Tests.{lt-ltb}
 use Rattle.cel_text.specs.Byte.{Text, lead, ascii}
@@ -55,6 +55,19 @@ module _ (f : ℕ → Bool) where
 
     pub end-within : (p : ℕ) → p ≤ length x → endOf f x p ≤ length x
     end-within p h = omega (arith, lead-within (drop p x), length-drop p x)
+
+-- past a run of a smaller class the run goes on
+module _ (f g : ℕ → Bool) (inside : (b : ℕ) → g b ≡ true → f b ≡ true) where
+  lead-inside : (x : Text) → lead g x + lead f (drop (lead g x) x) ≡ lead f x
+  lead-inside [] = refl
+  lead-inside (b ∷ bs) = decide (g b) (λ t. rw (t, inside b t) (omega (arith, lead-inside bs))) (λ t. rw t (zero-add (lead f (b ∷ bs))))
+
+  pub end-inside : (x : Text) (p : ℕ) → endOf f x (endOf g x p) ≡ endOf f x p
+  end-inside x p =
+      let q : ℕ = lead g (drop p x) in
+      let rest : drop (p + q) x ≡ drop q (drop p x) = sym (drop-drop q p x) in
+      let all : q + lead f (drop q (drop p x)) ≡ lead f (drop p x) = lead-inside (drop p x) in
+      rw rest (omega (arith, all))
 
 -- a byte that is not 0 stands within the text
 pub byte-within : (x : Text) (p : ℕ) → (getD x p 0 ≡ 0 → ⊥) → p < length x

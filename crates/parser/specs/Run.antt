@@ -3,13 +3,17 @@ use mathlib.Core.Path.{_≡_}
 use Prim.Native.Nat.{ℕ, _+_}
 use mathlib.Core.Bool.{Bool, _&&_, _||_}
 use lib.ListN.{drop}
-use lib.Dec.{leb}
+use lib.Dec.{leb, eqb}
 use Rattle.cel_text.specs.Byte.{Text, blank, identByte, stringByte, ascii, lead}
 use Rattle.parser.specs.declared.scan.Class.{Class}
-use Rattle.parser.specs.declared.scan.Class.the-variants.{Blank, Ident, Content, Ascii}
+use Rattle.parser.specs.declared.scan.Class.the-variants.{Blank, Space, Ident, Content, Ascii}
+
+abbrev pub space : ℕ → Bool
+space b = eqb b 32
 
 abbrev pub classOf : Class → ℕ → Bool
 classOf Blank = blank
+classOf Space = space
 classOf Ident = identByte
 classOf Content = stringByte
 classOf Ascii = ascii

@@ -9,6 +9,7 @@ use crate::Place;
 // The classes of bytes that runs are made of.
 pub enum Class {
     Blank,
+    Space,
     Ident,
     Content,
     Ascii,
@@ -31,6 +32,31 @@ pub(crate) fn peek(text: &[u8], at: Place) -> u8
 
 // The end of the run of bytes of this class that begins here.
 pub fn run_of(text: &[u8], at: Place, class: Class) -> Place
+    ensures { λ r. ⌜ r .0 ≡ endOf (classOf class) (now (text .entry)) (at .0) ⌝ }
+{
+    match class {
+        Class::Blank => blanks(text, at),
+        _ => run(text, at, class),
+    }
+}
+
+// The same for blanks. Most of them are spaces, many in a row, and a run of those takes one comparison for each.
+fn blanks(text: &[u8], at: Place) -> Place
+    ensures { λ r. ⌜ r .0 ≡ endOf blank (now (text .entry)) (at .0) ⌝ }
+{
+    let mut i = at.0;
+    while i < text.len() {
+        if !is_blank(text[i]) {
+            return Place(i);
+        }
+        let next = run(text, Place(i + 1), Class::Space);
+        i = next.0;
+    }
+    Place(i)
+}
+
+// The same, byte by byte.
+fn run(text: &[u8], at: Place, class: Class) -> Place
     ensures { λ r. ⌜ r .0 ≡ endOf (classOf class) (now (text .entry)) (at .0) ⌝ }
 {
     let mut i = at.0;
@@ -87,6 +113,7 @@ fn has(class: Class, b: u8) -> bool
 {
     match class {
         Class::Blank => is_blank(b),
+        Class::Space => b == b' ',
         Class::Ident => is_ident(b),
         Class::Content => is_content(b),
         Class::Ascii => b < 128,

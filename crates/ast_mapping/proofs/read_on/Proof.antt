@@ -51,7 +51,7 @@ slice-aggregate-settle : tie.Need-slice-aggregate-settle
 slice-aggregate-settle c = sym (length-take-le 512 (c .before .before .before .before .before .before .args .spans .now) (c .before .before .before .before .before .before .pre .1))
 
 settle-requires : tie.Need-settle-requires
-settle-requires c κs = 
+settle-requires c κs =
     let counted : length (take 512 (c .before .before .before .before .before .before .args .spans .now)) ≡ 512 = length-take-le 512 (c .before .before .before .before .before .before .args .spans .now) (c .before .before .before .before .before .before .pre .1) in
     (c .before .map-cel-ast .ensures .inside, ((counted, (omega (arith, counted, few (c .before)), omega (arith, few (c .before)))), (c .before .before .if1 .left, mapped-refusing (nodeAt (c .before .before .before .before .before .before .args .nodes .now) (c .before .before .before .before .before .before .args .text .now) 0) (root-small (root (c .before .before))) (mappedAs (c .before .before .before .before .before .before .args .nodes .now) (c .before .map-cel-ast .result)) (c .before .map-cel-ast .ensures .is))))
 

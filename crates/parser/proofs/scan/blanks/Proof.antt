@@ -1,0 +1,66 @@
+-- `scan::blanks` meets its contract: the run from `at` ends where the run from i does, for each place i passed. Assumes nothing.
+use mathlib.Core.Path.{_≡_, refl, sym, _∙_}
+use Prim.Native.Nat.{suc, _+_, _-_}
+use native.Mathlib.Numerals.{add-one}
+use borrow.Author.Tests.{not-true, not-false}
+use lib.ListN.{length}
+use native.Mathlib.Omega.{arith}
+use Rattle.cel_text.specs.Byte.{blank}
+use Rattle.parser.specs.Run.{space, endOf}
+use Rattle.parser.proofs.Runs.{end-none, end-stop, end-more, end-later, end-inside}
+use Rattle.parser.proofs.Classes.{space-blank}
+use Rattle.parser.proofs.scan.blanks.Statement.{statement}
+use Rattle.parser.proofs.scan.blanks.Tie as tie
+
+abbrev Inv-loop : tie.InvT-loop
+Inv-loop text i₀ i = endOf blank text i₀ ≡ endOf blank text i
+
+abbrev μ-loop : tie.MeasureT-loop
+μ-loop text i₀ i = length text - i
+
+loop-holds : tie.Need-loop-holds Inv-loop μ-loop
+loop-holds c = refl
+
+shared-slice-read-is-blank : tie.Need-shared-slice-read-is-blank Inv-loop μ-loop
+shared-slice-read-is-blank c = omega arith
+
+is-blank-requires : tie.Need-is-blank-requires Inv-loop μ-loop
+is-blank-requires c κs = tt
+
+returns : tie.Need-returns Inv-loop μ-loop
+returns c = sym (c .before .before .before .before .loop .inv ∙ end-stop blank (c .before .before .before .before .before .before .args .text .now) (c .before .before .before .before .loop .i) (sym (c .before .is-blank .ensures) ∙ not-true _ (c .if1 .taken)))
+
+add-t5 : tie.Need-add-t5 Inv-loop μ-loop
+add-t5 c = omega arith
+
+run-requires : tie.Need-run-requires Inv-loop μ-loop
+run-requires c κs = tt
+
+loop-less : tie.Need-loop-less Inv-loop μ-loop
+loop-less c = omega (arith, c .run .ensures, end-later space (c .before .before .before .before .before .before .before .args .text .now) (c .before .before .before .before .before .loop .i + 1))
+
+loop-again : tie.Need-loop-again Inv-loop μ-loop
+loop-again c =
+    let x = c .before .before .before .before .before .before .before .args .text .now in
+    let i = c .before .before .before .before .before .loop .i in
+    c .before .before .before .before .before .loop .inv ∙ end-more blank x i (c .before .before .before .before .loop-test .taken) (sym (c .before .before .is-blank .ensures) ∙ not-false _ (c .before .if1 .left))
+    ∙ sym (rw (c .run .ensures, add-one i) (end-inside blank space space-blank x (suc i)))
+
+returns-2 : tie.Need-returns-2 Inv-loop μ-loop
+returns-2 c = sym (c .before .loop .inv ∙ end-none blank (c .before .before .before .args .text .now) (c .before .loop .i) (c .loop-test .left))
+
+pub blanks-spec : {M : Type 1} → statement M
+blanks-spec =
+    tie.close
+    (tie.spec
+    Inv-loop
+    μ-loop
+    loop-holds
+    shared-slice-read-is-blank
+    is-blank-requires
+    returns
+    add-t5
+    run-requires
+    loop-less
+    loop-again
+    returns-2)
