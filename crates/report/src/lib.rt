@@ -1,0 +1,2 @@
+// A report.
+pub mod page;
