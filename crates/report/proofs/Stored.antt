@@ -20,7 +20,7 @@ module _ (out : List ℕ) (at b : ℕ) where
       record {
         room = simp length-set (omega arith);
         legible =
-          below-more After at
-          (λ (k : ℕ). λ q. subst Legible (sym (getD-set-other out at k b 0 (λ e. omega arith))) (s .legible k q))
-          (subst Legible (sym (getD-set-same out at b 0 h)) l);
+            below-more After at
+            (λ (k : ℕ). λ q. subst Legible (sym (getD-set-other out at k b 0 (λ e. omega arith))) (s .legible k q))
+            (subst Legible (sym (getD-set-same out at b 0 h)) l);
       }

@@ -4,7 +4,7 @@ ghost use Prim.Native.Nat.{_≤_, _<_};
 ghost use Rattle.report.specs.Shown.{Legible, Shown};
 
 // An empty report.
-pub fn begin(out: &[u8]) -> usize
+pub(crate) fn begin(out: &[u8]) -> usize
     ensures { λ r. ⌜ Shown (now (out .entry)) r ⌝ }
 {
     0
@@ -23,7 +23,7 @@ fn store(out: &mut [u8], at: usize, b: u8) -> usize
     at + 1
 }
 
-pub fn end_line(out: &mut [u8], at: usize) -> usize
+pub(crate) fn end_line(out: &mut [u8], at: usize) -> usize
     requires { ⌜ Shown (now out) at ⌝ }
     ensures { λ r. ⌜ Shown (now (out .exit)) r ⌝ }
 {
@@ -84,7 +84,7 @@ fn put_byte(out: &mut [u8], at: usize, b: u8) -> usize
 }
 
 // How many columns a byte takes.
-pub fn columns(b: u8) -> usize
+pub(crate) fn columns(b: u8) -> usize
     ensures { λ r. ⌜ r ≤ 4 ⌝ }
 {
     match b {
@@ -98,7 +98,7 @@ pub fn columns(b: u8) -> usize
 }
 
 // The bytes of a piece, each as it is shown.
-pub fn put(out: &mut [u8], at: usize, piece: &[u8]) -> usize
+pub(crate) fn put(out: &mut [u8], at: usize, piece: &[u8]) -> usize
     requires { ⌜ Shown (now out) at ⌝ }
     ensures { λ r. ⌜ Shown (now (out .exit)) r ⌝ }
 {
@@ -112,7 +112,7 @@ pub fn put(out: &mut [u8], at: usize, piece: &[u8]) -> usize
 }
 
 // A piece, and the line's end.
-pub fn put_line(out: &mut [u8], at: usize, piece: &[u8]) -> usize
+pub(crate) fn put_line(out: &mut [u8], at: usize, piece: &[u8]) -> usize
     requires { ⌜ Shown (now out) at ⌝ }
     ensures { λ r. ⌜ Shown (now (out .exit)) r ⌝ }
 {
@@ -120,7 +120,7 @@ pub fn put_line(out: &mut [u8], at: usize, piece: &[u8]) -> usize
     end_line(out, end)
 }
 
-pub fn put_spaces(out: &mut [u8], at: usize, n: usize) -> usize
+pub(crate) fn put_spaces(out: &mut [u8], at: usize, n: usize) -> usize
     requires { ⌜ Shown (now out) at ⌝ }
     requires { ⌜ n ≤ 80 ⌝ }
     ensures { λ r. ⌜ Shown (now (out .exit)) r ⌝ }
@@ -129,11 +129,25 @@ pub fn put_spaces(out: &mut [u8], at: usize, n: usize) -> usize
     put(out, at, &spaces[..n])
 }
 
-pub fn put_number(out: &mut [u8], at: usize, n: u32) -> usize
+pub(crate) fn put_number(out: &mut [u8], at: usize, n: usize) -> usize
     requires { ⌜ Shown (now out) at ⌝ }
     ensures { λ r. ⌜ Shown (now (out .exit)) r ⌝ }
 {
     let mut digits = [0u8; 20];
     let k = io::decimal(n as u64, &mut digits);
     put(out, at, &digits[..k])
+}
+
+// The bytes from `from` up to `to` of a text, as far as it has them.
+pub(crate) fn put_part(out: &mut [u8], at: usize, text: &[u8], from: usize, to: usize) -> usize
+    requires { ⌜ Shown (now out) at ⌝ }
+    ensures { λ r. ⌜ Shown (now (out .exit)) r ⌝ }
+{
+    if text.len() < to {
+        return at;
+    }
+    if to < from {
+        return at;
+    }
+    put(out, at, &text[from..to])
 }
