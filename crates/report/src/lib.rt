@@ -33,6 +33,7 @@ pub fn unreadable(name: &[u8], out: &mut [u8]) -> usize
     ensures { λ r. ⌜ Shown (now (out .exit)) r ⌝ }
 {
     let at = page::begin(out);
-    let end = page::put(out, at, b"explain: cannot read ");
-    page::put(out, end, name)
+    let end = page::put(out, at, b"explain: cannot read \"");
+    let end = page::put(out, end, name);
+    page::put(out, end, b"\"")
 }
