@@ -1,13 +1,12 @@
 // What a text means, for a person to read: the policy in words, or the refusal and the place that it is about. Whatever the text
 // holds, a report has line ends and printable ASCII bytes alone, so nothing of the text reaches a terminal but as letters.
 mod node;
-mod page;
 mod policy;
 mod refusal;
 mod window;
 mod words;
 
-ghost use Rattle.report.specs.Shown.{Shown};
+ghost use Rattle.page.specs.Shown.{Shown};
 
 // Room enough for every report.
 pub const MOST_BYTES: usize = 65536;

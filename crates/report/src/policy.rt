@@ -1,12 +1,11 @@
 // An accepted text in words: its form, its lists, its nodes and depth, and its canonical text.
 ghost use Prim.Native.Nat.{_≤_, _<_};
 ghost use lib.ListN.{length};
-ghost use Rattle.report.specs.Shown.{Shown};
-use crate::page;
-use crate::page::put;
-use crate::page::put_line;
-use crate::page::put_number;
+ghost use Rattle.page.specs.Shown.{Shown};
 use ast_mapping::Policy;
+use page::put;
+use page::put_line;
+use page::put_number;
 use parser::Answer;
 
 // The most bytes of a string that are shown.
@@ -190,11 +189,10 @@ fn put_size(out: &mut [u8], at: usize, answer: Answer) -> usize
     ensures { λ r. ⌜ Shown (now (out .exit)) r ⌝ }
 {
     let end = page::end_line(out, at);
-    let end = put(out, end, b"Nodes: ");
     let end = put_number(out, end, answer.nodes as usize);
-    let end = put(out, end, b". Depth: ");
+    let end = put(out, end, b" nodes, depth ");
     let end = put_number(out, end, answer.depth as usize);
-    put(out, end, b". Canonical text: ")
+    put(out, end, b". ")
 }
 
 // The canonical text, or that there is none. It is not cut: it stands on the last line, to be copied from there.
@@ -212,13 +210,15 @@ fn put_canonical(out: &mut [u8], at: usize, policy: Policy, text: &[u8], spans: 
     };
     let print = create_cel_expr::print_policy(given, text, spans, &mut printed);
     if print.refusal != 0 {
-        let end = put(out, at, b"none (");
+        let end = put(out, at, b"No canonical text (");
         let end = put_number(out, end, print.refusal as usize);
-        return put_line(out, end, b"), it would have more than 8,192 bytes.");
+        return put_line(out, end, b"): it would have more than 8192 bytes.");
     }
     let length = print.length as usize;
-    let end = put_number(out, at, length);
-    let end = put_line(out, end, b" bytes, the next line.");
+    let end = put(out, at, b"Canonical text, ");
+    let end = put_number(out, end, length);
+    let end = put_line(out, end, b" bytes:");
+    let end = page::end_line(out, end);
     let end = page::put_part(out, end, &printed, 0, length);
     page::end_line(out, end)
 }

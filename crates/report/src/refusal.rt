@@ -1,16 +1,16 @@
 // A refusal in words: its number, what it means, and the part of the text around its place.
 ghost use Prim.Native.Nat.{_≤_, _<_, _^_};
 ghost use lib.ListN.{length};
-ghost use Rattle.report.specs.Shown.{Shown};
+ghost use Rattle.page.specs.Shown.{Shown};
 use crate::node;
-use crate::page::put;
-use crate::page::put_line;
-use crate::page::put_number;
 use crate::window;
 use crate::words::put_expected;
 use crate::words::put_found;
 use crate::words::put_name;
 use ast_mapping::name;
+use page::put;
+use page::put_line;
+use page::put_number;
 use parser::Answer;
 use parser::Node;
 use parser::Place;
@@ -57,21 +57,25 @@ fn put_syntax(out: &mut [u8], at: usize, text: &[u8], place: Place) -> usize
     requires { ⌜ Shown (now out) at ⌝ }
     ensures { λ r. ⌜ Shown (now (out .exit)) r ⌝ }
 {
-    if place.0 < text.len() {
+    let i = place.0;
+    if i == text.len() {
         return put_around(
             out,
             at,
-            b"syntax. Byte ",
+            b"syntax. The text ends at byte ",
             place,
-            b" cannot follow what stands before it.",
+            b", where more must follow.",
         );
+    }
+    if i == 0 {
+        return put_line(out, at, b"syntax. Byte 0 cannot begin an expression.");
     }
     put_around(
         out,
         at,
-        b"syntax. The text ends at byte ",
+        b"syntax. Byte ",
         place,
-        b", where more must follow.",
+        b" cannot follow what stands before it.",
     )
 }
 
@@ -84,9 +88,9 @@ fn put_reading(out: &mut [u8], at: usize, refusal: u32, text: &[u8], place: Plac
         parser::TEXT_TOO_LONG => put_around(
             out,
             at,
-            b"too long. A text has at most ",
+            b"too long. At most ",
             place,
-            b" bytes; nothing after them is looked at.",
+            b" bytes are allowed.",
         ),
         parser::NOT_ASCII => put_not_ascii(out, at, text, place),
         parser::SYNTAX => put_syntax(out, at, text, place),
@@ -174,71 +178,98 @@ fn put_no_property(out: &mut [u8], at: usize, name: u32) -> usize
     put_line(out, end, b".")
 }
 
-// Both of two names, or neither.
-fn put_two(out: &mut [u8], at: usize, both: bool, first: u32, second: u32) -> usize
+// Both of two names, with what is said of the two.
+fn put_both(out: &mut [u8], at: usize, first: u32, second: u32, said: &[u8]) -> usize
     requires { ⌜ Shown (now out) at ⌝ }
     ensures { λ r. ⌜ Shown (now (out .exit)) r ⌝ }
 {
-    if both {
-        let end = put(out, at, b"both ");
-        let end = put_name(out, end, first);
-        let end = put(out, end, b" and ");
-        return put_name(out, end, second);
-    }
+    let end = put(out, at, b"both ");
+    let end = put_name(out, end, first);
+    let end = put(out, end, b" and ");
+    let end = put_name(out, end, second);
+    put_line(out, end, said)
+}
+
+// Neither of two names, with what is said of each.
+fn put_neither(out: &mut [u8], at: usize, first: u32, second: u32, said: &[u8]) -> usize
+    requires { ⌜ Shown (now out) at ⌝ }
+    ensures { λ r. ⌜ Shown (now (out .exit)) r ⌝ }
+{
     let end = put(out, at, b"neither ");
     let end = put_name(out, end, first);
     let end = put(out, end, b" nor ");
-    put_name(out, end, second)
+    let end = put_name(out, end, second);
+    put_line(out, end, said)
+}
+
+// The refusals that a pair of names makes: both are there, or neither. A header list without headers counts as absent.
+fn put_pair(out: &mut [u8], at: usize, refusal: u32) -> usize
+    requires { ⌜ Shown (now out) at ⌝ }
+    ensures { λ r. ⌜ Shown (now (out .exit)) r ⌝ }
+{
+    match refusal {
+        11 => put_both(
+            out,
+            at,
+            name::NO_CERTIFICATION,
+            name::CERTIFICATION,
+            b" are given.",
+        ),
+        12 => put_neither(
+            out,
+            at,
+            name::NO_CERTIFICATION,
+            name::CERTIFICATION,
+            b" is given.",
+        ),
+        13 => put_both(
+            out,
+            at,
+            name::NO_REQUEST_CERTIFICATION,
+            name::REQUEST_CERTIFICATION,
+            b" are given.",
+        ),
+        14 => put_neither(
+            out,
+            at,
+            name::NO_REQUEST_CERTIFICATION,
+            name::REQUEST_CERTIFICATION,
+            b" is given.",
+        ),
+        15 => put_both(
+            out,
+            at,
+            name::CERTIFIED_RESPONSE_HEADERS,
+            name::RESPONSE_HEADER_EXCLUSIONS,
+            b" give headers.",
+        ),
+        _ => put_neither(
+            out,
+            at,
+            name::CERTIFIED_RESPONSE_HEADERS,
+            name::RESPONSE_HEADER_EXCLUSIONS,
+            b" gives headers.",
+        ),
+    }
 }
 
 // The object that has to have one of the two.
-fn put_one_in(out: &mut [u8], at: usize, object: u32) -> usize
+fn owner_of_pair(refusal: u32) -> u32 {
+    match refusal {
+        11..=12 => name::VALIDATION_ARGS,
+        13..=14 => name::CERTIFICATION_OBJECT,
+        _ => name::RESPONSE_CERTIFICATION_OBJECT,
+    }
+}
+
+fn put_choice(out: &mut [u8], at: usize, refusal: u32) -> usize
     requires { ⌜ Shown (now out) at ⌝ }
     ensures { λ r. ⌜ Shown (now (out .exit)) r ⌝ }
 {
-    let end = put(out, at, b"Expected exactly one of them in ");
-    let end = put_name(out, end, object);
+    let end = put_pair(out, at, refusal);
+    let end = put(out, end, b"Expected exactly one of them in ");
+    let end = put_name(out, end, owner_of_pair(refusal));
     put_line(out, end, b".")
-}
-
-fn put_certification_choice(out: &mut [u8], at: usize, both: bool) -> usize
-    requires { ⌜ Shown (now out) at ⌝ }
-    ensures { λ r. ⌜ Shown (now (out .exit)) r ⌝ }
-{
-    let end = put_two(out, at, both, name::NO_CERTIFICATION, name::CERTIFICATION);
-    let end = put_line(out, end, b" in the object.");
-    put_one_in(out, end, name::VALIDATION_ARGS)
-}
-
-fn put_request_choice(out: &mut [u8], at: usize, both: bool) -> usize
-    requires { ⌜ Shown (now out) at ⌝ }
-    ensures { λ r. ⌜ Shown (now (out .exit)) r ⌝ }
-{
-    let end = put_two(
-        out,
-        at,
-        both,
-        name::NO_REQUEST_CERTIFICATION,
-        name::REQUEST_CERTIFICATION,
-    );
-    let end = put_line(out, end, b" in the object.");
-    put_one_in(out, end, name::CERTIFICATION_OBJECT)
-}
-
-// A list without headers counts as absent.
-fn put_response_choice(out: &mut [u8], at: usize, both: bool) -> usize
-    requires { ⌜ Shown (now out) at ⌝ }
-    ensures { λ r. ⌜ Shown (now (out .exit)) r ⌝ }
-{
-    let end = put_two(
-        out,
-        at,
-        both,
-        name::CERTIFIED_RESPONSE_HEADERS,
-        name::RESPONSE_HEADER_EXCLUSIONS,
-    );
-    let end = put_line(out, end, b" with headers.");
-    put_one_in(out, end, name::RESPONSE_CERTIFICATION_OBJECT)
 }
 
 // What refusals 7 to 16 mean.
@@ -253,12 +284,7 @@ fn put_mapping(out: &mut [u8], at: usize, answer: Answer, node: Node, found: u32
         8 => put_wrong_name(out, at, node, found, name),
         9 => put_no_argument(out, at, name),
         10 => put_no_property(out, at, name),
-        11 => put_certification_choice(out, at, true),
-        12 => put_certification_choice(out, at, false),
-        13 => put_request_choice(out, at, true),
-        14 => put_request_choice(out, at, false),
-        15 => put_response_choice(out, at, true),
-        _ => put_response_choice(out, at, false),
+        _ => put_choice(out, at, refusal),
     }
 }
 

@@ -1,10 +1,9 @@
 // The part of a text around a place, on one line, with a caret under the place.
 ghost use Prim.Native.Nat.{_≤_, _<_, _+_, _^_};
 ghost use lib.ListN.{length};
-ghost use Rattle.report.specs.Shown.{Shown};
-use crate::page;
-use crate::page::put;
-use crate::page::put_number;
+ghost use Rattle.page.specs.Shown.{Shown};
+use page::put;
+use page::put_number;
 use parser::Node;
 use parser::Place;
 

@@ -1,7 +1,7 @@
 // Names and kinds as they are written.
-ghost use Rattle.report.specs.Shown.{Shown};
-use crate::page::put;
+ghost use Rattle.page.specs.Shown.{Shown};
 use ast_mapping::name;
+use page::put;
 
 pub(crate) fn put_name(out: &mut [u8], at: usize, name: u32) -> usize
     requires { ⌜ Shown (now out) at ⌝ }

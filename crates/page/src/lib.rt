@@ -1,16 +1,16 @@
-// The bytes of a report. `store` alone writes to the output; everything goes through `put`, which escapes what is not plain, and
-// lines are ended by `end_line` alone. So each function here keeps `Shown`, whatever bytes it is given.
+// A page of text for a person, whatever bytes it is about. `store` alone writes to the output; what is put is escaped where it is not
+// plain, and lines are ended by `end_line` alone. So each function keeps `Shown`: every byte of the page is a line end or printable
+// ASCII. Each writes from the page's end on, as far as there is room, and answers the page's end then.
 ghost use Prim.Native.Nat.{_≤_, _<_};
-ghost use Rattle.report.specs.Shown.{Legible, Shown};
+ghost use Rattle.page.specs.Shown.{Legible, Shown};
 
-// An empty report.
-pub(crate) fn begin(out: &[u8]) -> usize
+// An empty page.
+pub fn begin(out: &[u8]) -> usize
     ensures { λ r. ⌜ Shown (now (out .entry)) r ⌝ }
 {
     0
 }
 
-// Puts one byte at the report's end, where there is room, and answers its end then.
 fn store(out: &mut [u8], at: usize, b: u8) -> usize
     requires { ⌜ Shown (now out) at ⌝ }
     requires { ⌜ Legible b ⌝ }
@@ -23,7 +23,7 @@ fn store(out: &mut [u8], at: usize, b: u8) -> usize
     at + 1
 }
 
-pub(crate) fn end_line(out: &mut [u8], at: usize) -> usize
+pub fn end_line(out: &mut [u8], at: usize) -> usize
     requires { ⌜ Shown (now out) at ⌝ }
     ensures { λ r. ⌜ Shown (now (out .exit)) r ⌝ }
 {
@@ -84,7 +84,7 @@ fn put_byte(out: &mut [u8], at: usize, b: u8) -> usize
 }
 
 // How many columns a byte takes.
-pub(crate) fn columns(b: u8) -> usize
+pub fn columns(b: u8) -> usize
     ensures { λ r. ⌜ r ≤ 4 ⌝ }
 {
     match b {
@@ -98,7 +98,7 @@ pub(crate) fn columns(b: u8) -> usize
 }
 
 // The bytes of a piece, each as it is shown.
-pub(crate) fn put(out: &mut [u8], at: usize, piece: &[u8]) -> usize
+pub fn put(out: &mut [u8], at: usize, piece: &[u8]) -> usize
     requires { ⌜ Shown (now out) at ⌝ }
     ensures { λ r. ⌜ Shown (now (out .exit)) r ⌝ }
 {
@@ -112,7 +112,7 @@ pub(crate) fn put(out: &mut [u8], at: usize, piece: &[u8]) -> usize
 }
 
 // A piece, and the line's end.
-pub(crate) fn put_line(out: &mut [u8], at: usize, piece: &[u8]) -> usize
+pub fn put_line(out: &mut [u8], at: usize, piece: &[u8]) -> usize
     requires { ⌜ Shown (now out) at ⌝ }
     ensures { λ r. ⌜ Shown (now (out .exit)) r ⌝ }
 {
@@ -120,7 +120,7 @@ pub(crate) fn put_line(out: &mut [u8], at: usize, piece: &[u8]) -> usize
     end_line(out, end)
 }
 
-pub(crate) fn put_spaces(out: &mut [u8], at: usize, n: usize) -> usize
+pub fn put_spaces(out: &mut [u8], at: usize, n: usize) -> usize
     requires { ⌜ Shown (now out) at ⌝ }
     requires { ⌜ n ≤ 80 ⌝ }
     ensures { λ r. ⌜ Shown (now (out .exit)) r ⌝ }
@@ -129,7 +129,7 @@ pub(crate) fn put_spaces(out: &mut [u8], at: usize, n: usize) -> usize
     put(out, at, &spaces[..n])
 }
 
-pub(crate) fn put_number(out: &mut [u8], at: usize, n: usize) -> usize
+pub fn put_number(out: &mut [u8], at: usize, n: usize) -> usize
     requires { ⌜ Shown (now out) at ⌝ }
     ensures { λ r. ⌜ Shown (now (out .exit)) r ⌝ }
 {
@@ -139,7 +139,7 @@ pub(crate) fn put_number(out: &mut [u8], at: usize, n: usize) -> usize
 }
 
 // The bytes from `from` up to `to` of a text, as far as it has them.
-pub(crate) fn put_part(out: &mut [u8], at: usize, text: &[u8], from: usize, to: usize) -> usize
+pub fn put_part(out: &mut [u8], at: usize, text: &[u8], from: usize, to: usize) -> usize
     requires { ⌜ Shown (now out) at ⌝ }
     ensures { λ r. ⌜ Shown (now (out .exit)) r ⌝ }
 {

@@ -1,11 +1,11 @@
--- `page::put_spaces` meets its contract: as many spaces are put as asked for. Assumes nothing.
+-- `put_spaces` meets its contract: as many spaces are put as asked for. Assumes nothing.
 use mathlib.Core.Path.{sym}
 use lib.ListN.{replicate}
 use lib.Seq.{length-take-le}
 use native.Mathlib.Omega.{arith}
 use borrow.Author.Needs.{needs}
-use Rattle.report.proofs.page.put_spaces.Statement.{statement}
-use Rattle.report.proofs.page.put_spaces.Tie as tie
+use Rattle.page.proofs.put_spaces.Statement.{statement}
+use Rattle.page.proofs.put_spaces.Tie as tie
 
 array-share-prefix-spaces : tie.Need-array-share-prefix-spaces
 array-share-prefix-spaces c = search needs

@@ -1,10 +1,10 @@
--- `page::put` meets its contract: each byte of the piece leaves a report, so what all leave is one. Assumes nothing.
+-- `put` meets its contract: each byte of the piece leaves a page, so what all leave is one. Assumes nothing.
 use Prim.Native.Nat.{_-_}
 use mathlib.Core.Path.{_≡_, refl, _∙_}
 use lib.ListN.{length}
-use Rattle.report.specs.Shown.{Shown}
-use Rattle.report.proofs.page.put.Statement.{statement}
-use Rattle.report.proofs.page.put.Tie as tie
+use Rattle.page.specs.Shown.{Shown}
+use Rattle.page.proofs.put.Statement.{statement}
+use Rattle.page.proofs.put.Tie as tie
 use borrow.Author.Needs.{needs}
 
 abbrev Inv-loop : tie.InvT-loop

@@ -1,8 +1,8 @@
--- `page::put_plain` meets its contract: a printable byte is legible. Assumes nothing.
+-- `put_plain` meets its contract: a printable byte is legible. Assumes nothing.
 use mathlib.Core.Logic.{inr}
 use borrow.Author.Needs.{needs}
-use Rattle.report.proofs.page.put_plain.Statement.{statement}
-use Rattle.report.proofs.page.put_plain.Tie as tie
+use Rattle.page.proofs.put_plain.Statement.{statement}
+use Rattle.page.proofs.put_plain.Tie as tie
 
 store-requires : tie.Need-store-requires
 store-requires c κs = (c .before .before .pre .0, inr (c .before .before .pre .1))

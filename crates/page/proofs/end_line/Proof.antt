@@ -1,9 +1,9 @@
--- `page::end_line` meets its contract: a line end is legible. Assumes nothing.
+-- `end_line` meets its contract: a line end is legible. Assumes nothing.
 use mathlib.Core.Path.{refl}
 use mathlib.Core.Logic.{inl}
 use borrow.Author.Needs.{needs}
-use Rattle.report.proofs.page.end_line.Statement.{statement}
-use Rattle.report.proofs.page.end_line.Tie as tie
+use Rattle.page.proofs.end_line.Statement.{statement}
+use Rattle.page.proofs.end_line.Tie as tie
 
 store-requires : tie.Need-store-requires
 store-requires c κs = (c .before .before .pre, inl refl)

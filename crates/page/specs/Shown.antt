@@ -1,4 +1,4 @@
--- What a report may hold. Assumes nothing.
+-- What a page may hold. Assumes nothing.
 use Prim.Native.Nat.{ℕ, _≤_, _<_}
 use mathlib.Core.Path.{_≡_}
 use mathlib.Core.Logic.{_⊎_}

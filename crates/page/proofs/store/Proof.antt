@@ -1,9 +1,9 @@
--- `page::store` meets its contract: where there is room, the report has one legible byte more. Assumes nothing.
+-- `store` meets its contract: where there is room, the page has one legible byte more. Assumes nothing.
 use native.Mathlib.Omega.{arith}
-use Rattle.report.proofs.Stored.{shown-more}
+use Rattle.page.proofs.Stored.{shown-more}
 use borrow.Author.Needs.{needs}
-use Rattle.report.proofs.page.store.Statement.{statement}
-use Rattle.report.proofs.page.store.Tie as tie
+use Rattle.page.proofs.store.Statement.{statement}
+use Rattle.page.proofs.store.Tie as tie
 
 returns : tie.Need-returns
 returns c = search needs

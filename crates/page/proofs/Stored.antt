@@ -1,4 +1,4 @@
--- A report of no bytes, and a report with one byte more. Assumes nothing.
+-- A page of no bytes, and a page with one byte more. Assumes nothing.
 use Prim.Native.Nat.{ℕ, _+_, _<_}
 use mathlib.Core.Path.{sym, subst}
 use mathlib.Core.List.{List}
@@ -6,7 +6,7 @@ use lib.ListN.{length, getD, set, length-set}
 use lib.Seq.{getD-set-same, getD-set-other}
 use native.Mathlib.Omega.{arith}
 use borrow.Author.Count.{below-none, below-more}
-use Rattle.report.specs.Shown.{Legible, Shown}
+use Rattle.page.specs.Shown.{Legible, Shown}
 
 pub shown-none : (out : List ℕ) → Shown out 0
 shown-none out = record { room = omega arith; legible = below-none (λ (k : ℕ). Legible (getD out k 0)) }
