@@ -9,7 +9,7 @@ use libc::STDOUT_FILENO;
 fn put_help() {
     io::write_all(
         STDOUT_FILENO,
-        b"Usage: explain [FILE]\n\nExplains the certification expression in the file, or on standard input: the policy that it\nstands for, or why and where it is refused. What follows the expression is not looked at.\n",
+        b"Usage: explain [FILE]\n\nExplains the certification expression in the file, or on standard input: the policy that it\nstands for, or why and where it is refused. What follows the expression is not looked at.\nBytes and nodes are counted from 0, lines and columns from 1.\n",
     );
 }
 

@@ -8,10 +8,8 @@ mod words;
 
 ghost use Rattle.page.specs.Shown.{Shown};
 
-// Room enough for every report.
-pub const MOST_BYTES: usize = 65536;
-
-// Puts the report on a text at the start of `out`, as far as there is room, and answers its length.
+// Puts the report on a text at the start of `out`, as far as there is room, and answers its length. No report needs more than
+// 32,768 bytes.
 pub fn report(text: &[u8], out: &mut [u8]) -> usize
     ensures { λ r. ⌜ Shown (now (out .exit)) r ⌝ }
 {

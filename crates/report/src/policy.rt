@@ -1,6 +1,4 @@
 // An accepted text in words: its form, its lists, its nodes and depth, and its canonical text.
-ghost use Prim.Native.Nat.{_≤_, _<_};
-ghost use lib.ListN.{length};
 ghost use Rattle.page.specs.Shown.{Shown};
 use ast_mapping::Policy;
 use page::put;
@@ -35,10 +33,10 @@ fn put_string(out: &mut [u8], at: usize, text: &[u8], from: usize, to: usize) ->
     requires { ⌜ Shown (now out) at ⌝ }
     ensures { λ r. ⌜ Shown (now (out .exit)) r ⌝ }
 {
-    let end = put(out, at, b"        \"");
     if to < from {
-        return end;
+        return at;
     }
+    let end = put(out, at, b"        \"");
     if to - from <= WIDE {
         let end = page::put_part(out, end, text, from, to);
         return put_line(out, end, b"\"");

@@ -1,6 +1,4 @@
 // A refusal in words: its number, what it means, and the part of the text around its place.
-ghost use Prim.Native.Nat.{_≤_, _<_, _^_};
-ghost use lib.ListN.{length};
 ghost use Rattle.page.specs.Shown.{Shown};
 use crate::node;
 use crate::window;
@@ -14,6 +12,13 @@ use page::put_number;
 use parser::Answer;
 use parser::Node;
 use parser::Place;
+
+// Two properties of which an object, by its name, has to have one.
+struct Pair {
+    first: u32,
+    second: u32,
+    object: u32,
+}
 
 fn put_head(out: &mut [u8], at: usize, refusal: u32) -> usize
     requires { ⌜ Shown (now out) at ⌝ }
@@ -32,25 +37,6 @@ fn put_around(out: &mut [u8], at: usize, first: &[u8], place: Place, last: &[u8]
     let end = put(out, at, first);
     let end = put_number(out, end, place.0);
     put_line(out, end, last)
-}
-
-fn wide(b: u8) -> usize {
-    b as usize
-}
-
-fn put_not_ascii(out: &mut [u8], at: usize, text: &[u8], place: Place) -> usize
-    requires { ⌜ Shown (now out) at ⌝ }
-    ensures { λ r. ⌜ Shown (now (out .exit)) r ⌝ }
-{
-    let i = place.0;
-    if i < text.len() {
-        let end = put(out, at, b"not ASCII. Byte ");
-        let end = put_number(out, end, i);
-        let end = put(out, end, b" has the value ");
-        let end = put_number(out, end, wide(text[i]));
-        return put_line(out, end, b"; each must be below 128.");
-    }
-    put_line(out, at, b"not ASCII.")
 }
 
 fn put_syntax(out: &mut [u8], at: usize, text: &[u8], place: Place) -> usize
@@ -92,7 +78,7 @@ fn put_reading(out: &mut [u8], at: usize, refusal: u32, text: &[u8], place: Plac
             place,
             b" bytes are allowed.",
         ),
-        parser::NOT_ASCII => put_not_ascii(out, at, text, place),
+        parser::NOT_ASCII => put_around(out, at, b"not ASCII. Byte ", place, b" is 128 or more."),
         parser::SYNTAX => put_syntax(out, at, text, place),
         parser::TOO_DEEP => put_around(
             out,
@@ -178,87 +164,61 @@ fn put_no_property(out: &mut [u8], at: usize, name: u32) -> usize
     put_line(out, end, b".")
 }
 
-// Both of two names, with what is said of the two.
-fn put_both(out: &mut [u8], at: usize, first: u32, second: u32, said: &[u8]) -> usize
+// The pair of names that refusals 11 to 16 are about.
+fn pair_of(refusal: u32) -> Pair {
+    match refusal {
+        11..=12 => Pair {
+            first: name::NO_CERTIFICATION,
+            second: name::CERTIFICATION,
+            object: name::VALIDATION_ARGS,
+        },
+        13..=14 => Pair {
+            first: name::NO_REQUEST_CERTIFICATION,
+            second: name::REQUEST_CERTIFICATION,
+            object: name::CERTIFICATION_OBJECT,
+        },
+        _ => Pair {
+            first: name::CERTIFIED_RESPONSE_HEADERS,
+            second: name::RESPONSE_HEADER_EXCLUSIONS,
+            object: name::RESPONSE_CERTIFICATION_OBJECT,
+        },
+    }
+}
+
+// Both names, with what is said of the two.
+fn put_both(out: &mut [u8], at: usize, pair: Pair, said: &[u8]) -> usize
     requires { ⌜ Shown (now out) at ⌝ }
     ensures { λ r. ⌜ Shown (now (out .exit)) r ⌝ }
 {
     let end = put(out, at, b"both ");
-    let end = put_name(out, end, first);
+    let end = put_name(out, end, pair.first);
     let end = put(out, end, b" and ");
-    let end = put_name(out, end, second);
+    let end = put_name(out, end, pair.second);
     put_line(out, end, said)
 }
 
-// Neither of two names, with what is said of each.
-fn put_neither(out: &mut [u8], at: usize, first: u32, second: u32, said: &[u8]) -> usize
+// Neither name, with what is said of each.
+fn put_neither(out: &mut [u8], at: usize, pair: Pair, said: &[u8]) -> usize
     requires { ⌜ Shown (now out) at ⌝ }
     ensures { λ r. ⌜ Shown (now (out .exit)) r ⌝ }
 {
     let end = put(out, at, b"neither ");
-    let end = put_name(out, end, first);
+    let end = put_name(out, end, pair.first);
     let end = put(out, end, b" nor ");
-    let end = put_name(out, end, second);
+    let end = put_name(out, end, pair.second);
     put_line(out, end, said)
 }
 
-// The refusals that a pair of names makes: both are there, or neither. A header list without headers counts as absent.
-fn put_pair(out: &mut [u8], at: usize, refusal: u32) -> usize
+// What is wrong with a pair. A list object without headers counts as absent, so of the lists the headers are spoken of.
+fn put_pair(out: &mut [u8], at: usize, pair: Pair, refusal: u32) -> usize
     requires { ⌜ Shown (now out) at ⌝ }
     ensures { λ r. ⌜ Shown (now (out .exit)) r ⌝ }
 {
     match refusal {
-        11 => put_both(
-            out,
-            at,
-            name::NO_CERTIFICATION,
-            name::CERTIFICATION,
-            b" are given.",
-        ),
-        12 => put_neither(
-            out,
-            at,
-            name::NO_CERTIFICATION,
-            name::CERTIFICATION,
-            b" is given.",
-        ),
-        13 => put_both(
-            out,
-            at,
-            name::NO_REQUEST_CERTIFICATION,
-            name::REQUEST_CERTIFICATION,
-            b" are given.",
-        ),
-        14 => put_neither(
-            out,
-            at,
-            name::NO_REQUEST_CERTIFICATION,
-            name::REQUEST_CERTIFICATION,
-            b" is given.",
-        ),
-        15 => put_both(
-            out,
-            at,
-            name::CERTIFIED_RESPONSE_HEADERS,
-            name::RESPONSE_HEADER_EXCLUSIONS,
-            b" give headers.",
-        ),
-        _ => put_neither(
-            out,
-            at,
-            name::CERTIFIED_RESPONSE_HEADERS,
-            name::RESPONSE_HEADER_EXCLUSIONS,
-            b" gives headers.",
-        ),
-    }
-}
-
-// The object that has to have one of the two.
-fn owner_of_pair(refusal: u32) -> u32 {
-    match refusal {
-        11..=12 => name::VALIDATION_ARGS,
-        13..=14 => name::CERTIFICATION_OBJECT,
-        _ => name::RESPONSE_CERTIFICATION_OBJECT,
+        11 | 13 => put_both(out, at, pair, b" are given."),
+        12 | 14 => put_neither(out, at, pair, b" is given."),
+        15 => put_both(out, at, pair, b" give headers."),
+        _ => put_neither(out, at, pair, b" gives headers."),
     }
 }
 
@@ -266,9 +226,10 @@ fn put_choice(out: &mut [u8], at: usize, refusal: u32) -> usize
     requires { ⌜ Shown (now out) at ⌝ }
     ensures { λ r. ⌜ Shown (now (out .exit)) r ⌝ }
 {
-    let end = put_pair(out, at, refusal);
+    let pair = pair_of(refusal);
+    let end = put_pair(out, at, pair, refusal);
     let end = put(out, end, b"Expected exactly one of them in ");
-    let end = put_name(out, end, owner_of_pair(refusal));
+    let end = put_name(out, end, pair.object);
     put_line(out, end, b".")
 }
 

@@ -125,19 +125,19 @@ fn spot_of(text: &[u8], place: Place) -> Spot
     spot
 }
 
-// The line and column of a place that is not in the first line, and the end of the line.
+// A line for the line and column of a place that is not in the first line.
 fn put_spot(out: &mut [u8], at: usize, spot: Spot) -> usize
     requires { ⌜ Shown (now out) at ⌝ }
     ensures { λ r. ⌜ Shown (now (out .exit)) r ⌝ }
 {
     if spot.line == 1 {
-        return page::end_line(out, at);
+        return at;
     }
-    let end = put(out, at, b" (line ");
+    let end = put(out, at, b"    Line ");
     let end = put_number(out, end, spot.line);
     let end = put(out, end, b", column ");
     let end = put_number(out, end, spot.column);
-    page::put_line(out, end, b")")
+    page::put_line(out, end, b".")
 }
 
 fn put_place(out: &mut [u8], at: usize, text: &[u8], place: Place) -> usize
@@ -147,6 +147,7 @@ fn put_place(out: &mut [u8], at: usize, text: &[u8], place: Place) -> usize
 {
     let end = put(out, at, b"byte ");
     let end = put_number(out, end, place.0);
+    let end = page::end_line(out, end);
     put_spot(out, end, spot_of(text, place))
 }
 
