@@ -76,7 +76,7 @@ fn put_reading(out: &mut [u8], at: usize, refusal: u32, text: &[u8], place: Plac
             at,
             b"too long. At most ",
             place,
-            b" bytes are allowed.",
+            b" bytes are allowed; what follows is not read.",
         ),
         parser::NOT_ASCII => put_around(out, at, b"not ASCII. Byte ", place, b" is 128 or more."),
         parser::SYNTAX => put_syntax(out, at, text, place),

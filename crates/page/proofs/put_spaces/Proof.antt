@@ -2,7 +2,6 @@
 use mathlib.Core.Path.{sym}
 use lib.ListN.{replicate}
 use lib.Seq.{length-take-le}
-use native.Mathlib.Omega.{arith}
 use borrow.Author.Needs.{needs}
 use Rattle.page.proofs.put_spaces.Statement.{statement}
 use Rattle.page.proofs.put_spaces.Tie as tie

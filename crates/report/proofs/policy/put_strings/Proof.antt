@@ -1,8 +1,7 @@
 -- `policy::put_strings` meets its contract: each string leaves a page, and only strings that the table has are looked at. Assumes nothing.
 use mathlib.Core.Path.{_≡_, refl, _∙_}
-use Prim.Native.Nat.{_-_, _*_, _+_}
+use Prim.Native.Nat.{_-_}
 use lib.ListN.{length}
-use native.Mathlib.Omega.{arith}
 use Rattle.page.specs.Shown.{Shown}
 use Rattle.report.proofs.policy.put_strings.Statement.{statement}
 use Rattle.report.proofs.policy.put_strings.Tie as tie

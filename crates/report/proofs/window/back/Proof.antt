@@ -1,6 +1,5 @@
 -- `window::back` meets its contract: each byte passed takes columns that there is room for. Assumes nothing.
 use Prim.Native.Nat.{_≤_}
-use native.Mathlib.Omega.{arith}
 use Rattle.report.proofs.window.back.Statement.{statement}
 use Rattle.report.proofs.window.back.Tie as tie
 use borrow.Author.Needs.{needs}

@@ -1,7 +1,6 @@
 -- `window::forth` meets its contract: each byte passed takes columns that there is room for. Assumes nothing.
 use Prim.Native.Nat.{_≤_, _-_}
 use lib.ListN.{length}
-use native.Mathlib.Omega.{arith}
 use Rattle.report.proofs.window.forth.Statement.{statement}
 use Rattle.report.proofs.window.forth.Tie as tie
 use borrow.Author.Needs.{needs}

@@ -1,7 +1,5 @@
 -- `window::spot_of` is safe: line and column are at most one more than the bytes passed. Assumes nothing.
 use Prim.Native.Nat.{_≤_, _+_, _-_}
-use lib.ListN.{length}
-use native.Mathlib.Omega.{arith}
 use Rattle.report.proofs.window.spot_of.Statement.{statement}
 use Rattle.report.proofs.window.spot_of.Tie as tie
 use borrow.Author.Needs.{needs}
