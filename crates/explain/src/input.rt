@@ -1,0 +1,49 @@
+// The bytes of a text, from a file or from standard input.
+ghost use Prim.Native.Nat.{_≤_};
+ghost use lib.ListN.{length};
+ghost use mathlib.Core.Path.{_≡_};
+
+// How many bytes are held, and whether a read failed.
+pub(crate) struct Held {
+    pub bytes: usize,
+    pub failed: bool,
+}
+
+// Room for the longest text and one byte more, which tells that a text is longer. The `ensures` gives the length, which lending
+// a part needs.
+pub(crate) fn text_room() -> [u8; 8193]
+    ensures { λ r. ⌜ 8193 ≡ length r ⌝ }
+{
+    [0; 8193]
+}
+
+// One read after the bytes held; at the end of the input no more are held than before.
+fn read_more(fd: i32, room: &mut [u8], held: usize) -> Held
+    requires { ⌜ held ≤ length (now room) ⌝ }
+    ensures { λ r. ⌜ (held ≤ r .bytes) × (r .bytes ≤ length (now (room .exit))) ⌝ }
+{
+    let part = &mut room[held..];
+    let got = libc::read(fd, part);
+    Held {
+        bytes: held + io::count(got, part),
+        failed: got < 0,
+    }
+}
+
+// Reads until the room is full, the input ends or a read fails.
+pub(crate) fn read_text(fd: i32, room: &mut [u8]) -> Held
+    ensures { λ r. ⌜ r .bytes ≤ length (now (room .exit)) ⌝ }
+{
+    let mut held = 0;
+    while held < room.len() {
+        let next = read_more(fd, room, held);
+        if next.bytes == held {
+            return next;
+        }
+        held = next.bytes;
+    }
+    Held {
+        bytes: held,
+        failed: false,
+    }
+}

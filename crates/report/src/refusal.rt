@@ -1,0 +1,272 @@
+// A refusal in words: its number, what it means, and the part of the text around its place.
+ghost use Rattle.page.specs.Shown.{Shown};
+use crate::node;
+use crate::window;
+use crate::words::put_expected;
+use crate::words::put_found;
+use crate::words::put_name;
+use ast_mapping::name;
+use page::put;
+use page::put_line;
+use page::put_number;
+use parser::Answer;
+use parser::Node;
+use parser::Place;
+
+// Two properties of which an object, by its name, has to have one.
+struct Pair {
+    first: u32,
+    second: u32,
+    object: u32,
+}
+
+fn put_head(out: &mut [u8], at: usize, refusal: u32) -> usize
+    requires { ⌜ Shown (now out) at ⌝ }
+    ensures { λ r. ⌜ Shown (now (out .exit)) r ⌝ }
+{
+    let end = put(out, at, b"Refused (");
+    let end = put_number(out, end, refusal as usize);
+    put(out, end, b"): ")
+}
+
+// Two pieces around a place.
+fn put_around(out: &mut [u8], at: usize, first: &[u8], place: Place, last: &[u8]) -> usize
+    requires { ⌜ Shown (now out) at ⌝ }
+    ensures { λ r. ⌜ Shown (now (out .exit)) r ⌝ }
+{
+    let end = put(out, at, first);
+    let end = put_number(out, end, place.0);
+    put_line(out, end, last)
+}
+
+fn put_syntax(out: &mut [u8], at: usize, text: &[u8], place: Place) -> usize
+    requires { ⌜ Shown (now out) at ⌝ }
+    ensures { λ r. ⌜ Shown (now (out .exit)) r ⌝ }
+{
+    let i = place.0;
+    if i == text.len() {
+        return put_around(
+            out,
+            at,
+            b"syntax. The text ends at byte ",
+            place,
+            b", where more must follow.",
+        );
+    }
+    if i == 0 {
+        return put_line(out, at, b"syntax. Byte 0 cannot begin an expression.");
+    }
+    put_around(
+        out,
+        at,
+        b"syntax. Byte ",
+        place,
+        b" cannot follow what stands before it.",
+    )
+}
+
+// What refusals 2 to 6 mean.
+fn put_reading(out: &mut [u8], at: usize, refusal: u32, text: &[u8], place: Place) -> usize
+    requires { ⌜ Shown (now out) at ⌝ }
+    ensures { λ r. ⌜ Shown (now (out .exit)) r ⌝ }
+{
+    match refusal {
+        parser::TEXT_TOO_LONG => put_around(
+            out,
+            at,
+            b"too long. At most ",
+            place,
+            b" bytes are allowed; what follows is not read.",
+        ),
+        parser::NOT_ASCII => put_around(out, at, b"not ASCII. Byte ", place, b" is 128 or more."),
+        parser::SYNTAX => put_syntax(out, at, text, place),
+        parser::TOO_DEEP => put_around(
+            out,
+            at,
+            b"too deep. Byte ",
+            place,
+            b" opens a container at depth 33; at most 32 is allowed.",
+        ),
+        parser::TOO_MANY => put_around(
+            out,
+            at,
+            b"too many values. Byte ",
+            place,
+            b" opens value 257; at most 256 are allowed.",
+        ),
+        _ => put_line(out, at, b"a table that was lent is too short."),
+    }
+}
+
+// What is expected instead.
+fn put_instead(out: &mut [u8], at: usize, kind: u32, name: u32) -> usize
+    requires { ⌜ Shown (now out) at ⌝ }
+    ensures { λ r. ⌜ Shown (now (out .exit)) r ⌝ }
+{
+    let end = put_expected(out, at, kind);
+    let end = put_name(out, end, name);
+    put_line(out, end, b".")
+}
+
+// A node of another kind or name: what it is.
+fn put_node(out: &mut [u8], at: usize, node: Node, found: u32) -> usize
+    requires { ⌜ Shown (now out) at ⌝ }
+    ensures { λ r. ⌜ Shown (now (out .exit)) r ⌝ }
+{
+    let end = put(out, at, b"node ");
+    let end = put_number(out, end, node.0);
+    let end = put(out, end, b" is ");
+    put_found(out, end, found)
+}
+
+fn put_wrong_kind(out: &mut [u8], at: usize, node: Node, found: u32, kind: u32, name: u32) -> usize
+    requires { ⌜ Shown (now out) at ⌝ }
+    ensures { λ r. ⌜ Shown (now (out .exit)) r ⌝ }
+{
+    let end = put_node(out, at, node, found);
+    let end = put_line(out, end, b".");
+    put_instead(out, end, kind, name)
+}
+
+fn put_wrong_name(out: &mut [u8], at: usize, node: Node, found: u32, name: u32) -> usize
+    requires { ⌜ Shown (now out) at ⌝ }
+    ensures { λ r. ⌜ Shown (now (out .exit)) r ⌝ }
+{
+    let end = put_node(out, at, node, found);
+    let end = put_line(out, end, b" with another name.");
+    put_instead(out, end, found, name)
+}
+
+fn put_no_argument(out: &mut [u8], at: usize, name: u32) -> usize
+    requires { ⌜ Shown (now out) at ⌝ }
+    ensures { λ r. ⌜ Shown (now (out .exit)) r ⌝ }
+{
+    let end = put_name(out, at, name::DEFAULT_CERTIFICATION);
+    let end = put_line(out, end, b" has no argument.");
+    put_instead(out, end, parser::OBJECT, name)
+}
+
+// The object that must have this property.
+fn owner(name: u32) -> u32 {
+    if name == name::RESPONSE_CERTIFICATION {
+        return name::CERTIFICATION_OBJECT;
+    }
+    name::REQUEST_CERTIFICATION_OBJECT
+}
+
+fn put_no_property(out: &mut [u8], at: usize, name: u32) -> usize
+    requires { ⌜ Shown (now out) at ⌝ }
+    ensures { λ r. ⌜ Shown (now (out .exit)) r ⌝ }
+{
+    let end = put_name(out, at, owner(name));
+    let end = put(out, end, b" lacks the property ");
+    let end = put_name(out, end, name);
+    put_line(out, end, b".")
+}
+
+// The pair of names that refusals 11 to 16 are about.
+fn pair_of(refusal: u32) -> Pair {
+    match refusal {
+        11..=12 => Pair {
+            first: name::NO_CERTIFICATION,
+            second: name::CERTIFICATION,
+            object: name::VALIDATION_ARGS,
+        },
+        13..=14 => Pair {
+            first: name::NO_REQUEST_CERTIFICATION,
+            second: name::REQUEST_CERTIFICATION,
+            object: name::CERTIFICATION_OBJECT,
+        },
+        _ => Pair {
+            first: name::CERTIFIED_RESPONSE_HEADERS,
+            second: name::RESPONSE_HEADER_EXCLUSIONS,
+            object: name::RESPONSE_CERTIFICATION_OBJECT,
+        },
+    }
+}
+
+// Both names, with what is said of the two.
+fn put_both(out: &mut [u8], at: usize, pair: Pair, said: &[u8]) -> usize
+    requires { ⌜ Shown (now out) at ⌝ }
+    ensures { λ r. ⌜ Shown (now (out .exit)) r ⌝ }
+{
+    let end = put(out, at, b"both ");
+    let end = put_name(out, end, pair.first);
+    let end = put(out, end, b" and ");
+    let end = put_name(out, end, pair.second);
+    put_line(out, end, said)
+}
+
+// Neither name, with what is said of each.
+fn put_neither(out: &mut [u8], at: usize, pair: Pair, said: &[u8]) -> usize
+    requires { ⌜ Shown (now out) at ⌝ }
+    ensures { λ r. ⌜ Shown (now (out .exit)) r ⌝ }
+{
+    let end = put(out, at, b"neither ");
+    let end = put_name(out, end, pair.first);
+    let end = put(out, end, b" nor ");
+    let end = put_name(out, end, pair.second);
+    put_line(out, end, said)
+}
+
+// What is wrong with a pair. A list object without headers counts as absent, so of the lists the headers are spoken of.
+fn put_pair(out: &mut [u8], at: usize, pair: Pair, refusal: u32) -> usize
+    requires { ⌜ Shown (now out) at ⌝ }
+    ensures { λ r. ⌜ Shown (now (out .exit)) r ⌝ }
+{
+    match refusal {
+        11 | 13 => put_both(out, at, pair, b" are given."),
+        12 | 14 => put_neither(out, at, pair, b" is given."),
+        15 => put_both(out, at, pair, b" give headers."),
+        _ => put_neither(out, at, pair, b" gives headers."),
+    }
+}
+
+fn put_choice(out: &mut [u8], at: usize, refusal: u32) -> usize
+    requires { ⌜ Shown (now out) at ⌝ }
+    ensures { λ r. ⌜ Shown (now (out .exit)) r ⌝ }
+{
+    let pair = pair_of(refusal);
+    let end = put_pair(out, at, pair, refusal);
+    let end = put(out, end, b"Expected exactly one of them in ");
+    let end = put_name(out, end, pair.object);
+    put_line(out, end, b".")
+}
+
+// What refusals 7 to 16 mean.
+fn put_mapping(out: &mut [u8], at: usize, answer: Answer, node: Node, found: u32) -> usize
+    requires { ⌜ Shown (now out) at ⌝ }
+    ensures { λ r. ⌜ Shown (now (out .exit)) r ⌝ }
+{
+    let refusal = answer.refusal;
+    let name = answer.name;
+    match refusal {
+        7 => put_wrong_kind(out, at, node, found, answer.kind, name),
+        8 => put_wrong_name(out, at, node, found, name),
+        9 => put_no_argument(out, at, name),
+        10 => put_no_property(out, at, name),
+        _ => put_choice(out, at, refusal),
+    }
+}
+
+pub(crate) fn put_refusal(
+    out: &mut [u8],
+    at: usize,
+    answer: Answer,
+    text: &[u8],
+    table: &[u32],
+) -> usize
+    requires { ⌜ Shown (now out) at ⌝ }
+    ensures { λ r. ⌜ Shown (now (out .exit)) r ⌝ }
+{
+    let end = put_head(out, at, answer.refusal);
+    let number = answer.place as usize;
+    if answer.refusal <= parser::TOO_MANY {
+        let place = window::within(text, number);
+        let end = put_reading(out, end, answer.refusal, text, place);
+        return window::put_byte_place(out, end, text, place);
+    }
+    let node = Node(number);
+    let end = put_mapping(out, end, answer, node, node::kind(table, node));
+    window::put_node_place(out, end, text, node, node::start(text, table, node))
+}

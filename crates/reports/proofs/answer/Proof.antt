@@ -1,0 +1,77 @@
+-- `answer` is safe, and ends within out: the text lies in the room that it was put into. Assumes nothing.
+use mathlib.Core.Path.{sym, subst}
+use lib.ListN.{length}
+use lib.Seq.{length-take-le}
+use Rattle.lines.specs.Within.{Fitting}
+use borrow.Author.Needs.{needs}
+use Rattle.reports.proofs.answer.Statement.{statement}
+use Rattle.reports.proofs.answer.Tie as tie
+
+text-room-requires : tie.Need-text-room-requires
+text-room-requires c κs = search needs
+
+slice-aggregate-unhex : tie.Need-slice-aggregate-unhex
+slice-aggregate-unhex c = search needs
+
+unhex-requires : tie.Need-unhex-requires
+unhex-requires c κs = search needs
+
+enum-known-count : tie.Need-enum-known-count
+enum-known-count c = search needs
+
+enum-told : tie.Need-enum-told
+enum-told c = search needs
+
+slice-aggregate-put : tie.Need-slice-aggregate-put
+slice-aggregate-put c = search needs
+
+put-requires : tie.Need-put-requires
+put-requires c κs = search needs
+
+same-length : tie.Need-same-length
+same-length c = search needs
+
+returns : tie.Need-returns
+returns c = search needs
+
+array-share-prefix-text : tie.Need-array-share-prefix-text
+array-share-prefix-text c = subst (Fitting (length (c .before .before .before .before .unhex .last .1 .0))) (c .before .count .given .1) (c .before .before .before .before .unhex .ensures)
+
+slice-aggregate-report : tie.Need-slice-aggregate-report
+slice-aggregate-report c = sym (length-take-le _ (c .before .before .before .before .before .unhex .last .1 .0) (subst (Fitting (length (c .before .before .before .before .before .unhex .last .1 .0))) (c .before .before .count .given .1) (c .before .before .before .before .before .unhex .ensures)))
+
+report-requires : tie.Need-report-requires
+report-requires c κs = search needs
+
+slice-aggregate-put-2 : tie.Need-slice-aggregate-put-2
+slice-aggregate-put-2 c = search needs
+
+put-requires-2 : tie.Need-put-requires-2
+put-requires-2 c κs = search needs
+
+same-length-2 : tie.Need-same-length-2
+same-length-2 c = search needs
+
+returns-2 : tie.Need-returns-2
+returns-2 c = search needs
+
+pub answer-spec : {M : Type 1} → statement M
+answer-spec =
+    tie.close
+    (tie.spec
+    text-room-requires
+    slice-aggregate-unhex
+    unhex-requires
+    enum-known-count
+    enum-told
+    slice-aggregate-put
+    put-requires
+    same-length
+    returns
+    array-share-prefix-text
+    slice-aggregate-report
+    report-requires
+    slice-aggregate-put-2
+    put-requires-2
+    same-length-2
+    returns-2)
