@@ -21,19 +21,29 @@ static void fail(const char *why, size_t line)
     exit(1);
 }
 
+/* The next digit's value, which no line lacks. */
+static unsigned read_digit(int next, size_t line)
+{
+    if (next >= '0' && next <= '9')
+        return (unsigned)(next - '0');
+    if (next < 'a' || next > 'f')
+        fail("not an input in hex", line);
+    return (unsigned)(next - 'a') + 10;
+}
+
 /* The next line's bytes, and how many; MOST_INPUT + 1 at the end of the file. */
 static size_t read_input(FILE *file, size_t line)
 {
     size_t length = 0;
-    unsigned byte;
     int next;
     while ((next = getc(file)) != '\n') {
-        if (next == EOF)
+        unsigned high;
+        if (next == EOF && length == 0)
             return MOST_INPUT + 1;
-        ungetc(next, file);
-        if (length == MOST_INPUT || fscanf(file, "%2x", &byte) != 1)
-            fail("not an input in hex", line);
-        input[length++] = (uint8_t)byte;
+        if (length == MOST_INPUT)
+            fail("an input that is too long", line);
+        high = read_digit(next, line);
+        input[length++] = (uint8_t)(16 * high + read_digit(getc(file), line));
     }
     return length;
 }
