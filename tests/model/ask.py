@@ -1,9 +1,10 @@
 """Asks the programs `answers` and `prints` what the model knows, and compares every field of every line.
 
-usage: ask.py SEED TEXTS POLICIES FOLDER, where FOLDER has the two programs. Fails at the first field that differs, and where an
-outcome that should occur never did.
+ask.py FOLDER SEED TEXTS POLICIES, or ask.py FOLDER all LENGTH LETTERS, where FOLDER has the two programs; tests/second-opinion checks
+the words. Fails at the first field that differs and, but for `all`, where an outcome that should occur never did.
 """
 
+import itertools
 import subprocess
 import sys
 import tempfile
@@ -30,6 +31,8 @@ TYPES = [(7, 1, 4)] + [(7, name, 3) for name in (2, 5, 8, 12, 15)] + [(7, name, 
 NAMED = TYPES + [(8, name, 0) for name in (1, 2, 5, 8, 12, 15)] + [(9, 2, 0)] + [(10, name, 0) for name in (9, 10, 11)]
 UNNAMED = [(number, 0, 0) for number in range(11, 17)]
 
+TEXT_ENTRIES = ("read_tree", "read_policy", "canonicalise")
+
 SHOULD_OCCUR = {
     "read_tree": ["accepted"] + [(number, 0, 0) for number in range(1, 7)],
     "read_policy": list(FORMS.values()) + [(number, 0, 0) for number in range(1, 7)] + NAMED + UNNAMED,
@@ -38,9 +41,9 @@ SHOULD_OCCUR = {
 }
 
 
-def fail(why, status=1):
+def fail(why):
     print("second-opinion: " + why, file=sys.stderr)
-    sys.exit(status)
+    sys.exit(1)
 
 
 def start(program, requests):
@@ -78,20 +81,34 @@ def differs(request, theirs, ours, fields):
             fail("the request %s: %s: the program says %s, the model %s" % (request, name, field, right))
 
 
-def ask_texts(seed, count, program, seen):
-    """One chunk of texts, and what they are lent."""
-    texts = Texts(seed)
-    asked, requests = [], []
-    for _ in range(count):
-        text = texts.text()
-        reading = lines.Reading(text)
-        lent = texts.lent(lines.USUAL, len(reading.printed or b""))
-        asked.append((reading, lent + lines.USUAL[len(lent):]))
-        requests.append("\t".join([text.hex()] + [str(number) for number in lent]) + "\n")
-    running, answers = start(program, requests)
-    compare(requests, [reading.line(lent) for reading, lent in asked], running, answers, ANSWER_FIELDS)
-    for reading, lent in asked:
-        count_answers(seen, reading, lent)
+def mixed(seed, count):
+    """Generated texts as they were read, and numbers to lend; each chunk has a seed of its own."""
+    for index in range(count):
+        if index % CHUNK == 0:
+            texts = Texts(seed * 1000000 + index // CHUNK)
+        reading = lines.Reading(texts.text())
+        yield reading, texts.lent(lines.USUAL, len(reading.printed or b""))
+
+
+def swept(length, letters):
+    """Every text of at most this many letters."""
+    for number in range(length + 1):
+        for text in itertools.product(letters, repeat=number):
+            yield lines.Reading(bytes(text)), ()
+
+
+def ask_texts(texts, program, seen):
+    """Asks a chunk at a time; gives the number of texts."""
+    asked = 0
+    while chunk := list(itertools.islice(texts, CHUNK)):
+        requests = ["\t".join([reading.text.hex()] + [str(number) for number in lent]) + "\n" for reading, lent in chunk]
+        running, answers = start(program, requests)
+        chunk = [(reading, lent + lines.USUAL[len(lent):]) for reading, lent in chunk]
+        compare(requests, [reading.line(lent) for reading, lent in chunk], running, answers, ANSWER_FIELDS)
+        for reading, lent in chunk:
+            count_answers(seen, reading, lent)
+        asked += len(chunk)
+    return asked
 
 
 def count_answers(seen, reading, lent):
@@ -105,28 +122,27 @@ def count_answers(seen, reading, lent):
     seen["canonicalise", "accepted" if number < 65536 else number - 65536] += 1
 
 
-def ask_policies(seed, count, program, seen):
-    """One chunk of policies, with outputs about as long as what is printed."""
-    policies = Policies(seed)
-    requests, expected = [], []
-    for _ in range(count):
+def foreign(seed, count):
+    """Requests to print generated policies, with outputs about as long as what is printed, and their answers."""
+    for index in range(count):
+        if index % CHUNK == 0:
+            policies = Policies(seed * 1000000 + index // CHUNK)
         text, form, kind, counts, table = policies.policy()
         needed = lines.print_answer(text, form, kind, counts, table, lines.USUAL[2])[0][4]
         room = policies.room(needed)
         numbers, output = lines.print_answer(text, form, kind, counts, table, room)
-        expected.append(lines.print_line(numbers, output))
-        numbers_asked = (form, kind) + counts
-        fields = [text.hex()] + [str(number) for number in numbers_asked] + [",".join(map(str, table)), str(room)]
-        requests.append("\t".join(fields) + "\n")
-        seen["print_policy", numbers[:3] if numbers[0] else FORMS[form, kind]] += 1
-    running, answers = start(program, requests)
-    compare(requests, expected, running, answers, PRINT_FIELDS)
+        fields = (text.hex(), form, kind) + counts + (",".join(map(str, table)), room)
+        outcome = numbers[:3] if numbers[0] else FORMS[form, kind]
+        yield "\t".join(map(str, fields)) + "\n", lines.print_line(numbers, output), outcome
 
 
-def ask_all(seed, count, ask, program, seen):
-    """As many as asked for, each chunk with a seed of its own."""
-    for chunk in range(0, count, CHUNK):
-        ask(seed * 1000000 + chunk // CHUNK, min(CHUNK, count - chunk), program, seen)
+def ask_policies(policies, program, seen):
+    """Asks a chunk at a time."""
+    while chunk := list(itertools.islice(policies, CHUNK)):
+        requests, expected, outcomes = zip(*chunk)
+        running, answers = start(program, requests)
+        compare(requests, list(expected), running, answers, PRINT_FIELDS)
+        seen.update(("print_policy", outcome) for outcome in outcomes)
 
 
 def shown(outcome):
@@ -147,20 +163,30 @@ def report(entry, seen):
     return ["%s %s" % (entry, shown(outcome)) for outcome, number in counts.items() if not number]
 
 
-def main(arguments):
-    if len(arguments) != 4 or not all(argument.isdecimal() for argument in arguments[:3]):
-        fail("usage: ask.py SEED TEXTS POLICIES FOLDER", 2)
-    seed, texts, policies = map(int, arguments[:3])
-    folder = arguments[3]
+def ask_every(length, letters, folder):
     seen = Counter()
-    ask_all(seed, texts, ask_texts, folder + "/answers", seen)
-    ask_all(seed, policies, ask_policies, folder + "/prints", seen)
-    entries = (["read_tree", "read_policy", "canonicalise"] if texts else []) + (["print_policy"] if policies else [])
-    never = [outcome for entry in entries for outcome in report(entry, seen)]
+    asked = ask_texts(swept(length, letters), folder + "/answers", seen)
+    for entry in TEXT_ENTRIES:
+        report(entry, seen)
+    print("second-opinion: {:,} texts, every field as the model has it".format(asked))
+
+
+def ask_mix(seed, texts, policies, folder):
+    seen = Counter()
+    ask_texts(mixed(seed, texts), folder + "/answers", seen)
+    ask_policies(foreign(seed, policies), folder + "/prints", seen)
+    never = [outcome for entry in SHOULD_OCCUR for outcome in report(entry, seen)]
     if never:
         fail("never occurred: " + ", ".join(never))
     print("second-opinion: {:,} texts and {:,} policies, every field as the model has it, every outcome occurred".format(texts, policies))
 
 
+def main(folder, arguments):
+    if arguments[0] == "all":
+        ask_every(int(arguments[1]), arguments[2].encode(), folder)
+    else:
+        ask_mix(*map(int, arguments), folder)
+
+
 if __name__ == "__main__":
-    main(sys.argv[1:])
+    main(sys.argv[1], sys.argv[2:])

@@ -13,6 +13,7 @@ class Reading:
     """A text read once: what each entry answers then depends on what it is lent alone."""
 
     def __init__(self, text):
+        self.text = text
         self.tree = self.policy = self.printed = None
         self.refused = (0, 0, 0, 0)
         try:
@@ -21,13 +22,13 @@ class Reading:
         except Refused as refused:
             self.refused = refused.numbers
         if self.policy is not None:
-            self.print(text)
+            self.print()
 
-    def print(self, text):
+    def print(self):
         policy = self.policy
         self.spans = policy.spans()
         try:
-            self.printed = model.print_policy(text, policy.form, policy.kind, policy.counts(), self.spans, model.MOST_BYTES)
+            self.printed = model.print_policy(self.text, policy.form, policy.kind, policy.counts(), self.spans, model.MOST_BYTES)
         except Refused as refused:
             self.unprinted = refused.numbers[0]
 
