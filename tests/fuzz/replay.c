@@ -74,7 +74,8 @@ static void show_answers(size_t inputs)
 }
 
 #ifdef TRACED
-static const uint8_t *counters, *counters_end;
+static uint8_t *counters, *reached;
+static size_t places;
 
 void __sanitizer_cov_8bit_counters_init(uint8_t *start, uint8_t *stop);
 void __sanitizer_cov_pcs_init(const uintptr_t *start, const uintptr_t *stop);
@@ -89,7 +90,8 @@ void __sanitizer_cov_trace_switch(uint64_t value, uint64_t *cases);
 void __sanitizer_cov_8bit_counters_init(uint8_t *start, uint8_t *stop)
 {
     counters = start;
-    counters_end = stop;
+    places = (size_t)(stop - start);
+    reached = calloc(places, 1);
 }
 
 /* The traced archive calls these, and only the fuzzer makes something of them. */
@@ -102,14 +104,26 @@ void __sanitizer_cov_trace_const_cmp4(uint32_t a, uint32_t b) { (void)a, (void)b
 void __sanitizer_cov_trace_const_cmp8(uint64_t a, uint64_t b) { (void)a, (void)b; }
 void __sanitizer_cov_trace_switch(uint64_t value, uint64_t *cases) { (void)value, (void)cases; }
 
+/* After each input, for a counter goes back to 0 after 255. */
+static void note_coverage(void)
+{
+    size_t i;
+    for (i = 0; i < places; i++) {
+        reached[i] |= counters[i] != 0;
+        counters[i] = 0;
+    }
+}
+
 static void show_coverage(void)
 {
-    size_t reached = 0;
-    const uint8_t *counter;
-    for (counter = counters; counter < counters_end; counter++)
-        reached += *counter != 0;
-    printf("replay: %zu of the %zu counted places in the archive's code were reached\n", reached, (size_t)(counters_end - counters));
+    size_t i, sum = 0;
+    for (i = 0; i < places; i++)
+        sum += reached[i];
+    printf("replay: %zu of the %zu counted places in the archive's code were reached\n", sum, places);
 }
+#else
+static void note_coverage(void) {}
+static void show_coverage(void) {}
 #endif
 
 int main(int count, char **arguments)
@@ -129,14 +143,13 @@ int main(int count, char **arguments)
         if (length >= 2)
             count_answers(exact + 2, length - 2);
         LLVMFuzzerTestOneInput(exact, length);
+        note_coverage();
         free(exact);
         inputs++;
     }
     fclose(file);
     free(input);
     show_answers(inputs);
-#ifdef TRACED
     show_coverage();
-#endif
     return 0;
 }
