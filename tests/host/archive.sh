@@ -1,0 +1,38 @@
+# Sourced by the tests that link the archive, with $top the repository, $made a folder that is there, and a function `fail`.
+
+warnings='-Wall -Wextra -Wpedantic -Werror'
+
+# needs COMMAND WHAT
+needs() {
+	command -v "$1" >/dev/null || fail "$1, $2, is not there" 2
+}
+
+# Ends the test where the machine cannot link the archive.
+skip_unless_linkable() {
+	case $(uname -sm) in
+	'Linux x86_64') ;;
+	*)
+		echo "SKIPPED: the archive is for x86-64 Linux, and this machine is not"
+		exit 0
+		;;
+	esac
+}
+
+# Makes the archive, or takes the one in the folder that HILLADOK_LIB_DIR names; sets $archive.
+find_archive() {
+	if [ -n "${HILLADOK_LIB_DIR+set}" ]; then
+		archive=$HILLADOK_LIB_DIR/libhost.a
+		[ -f "$archive" ] || fail "HILLADOK_LIB_DIR names a folder without libhost.a: $HILLADOK_LIB_DIR" 2
+		HILLADOK_LIB_DIR=$(cd "$HILLADOK_LIB_DIR" && pwd)
+		archive=$HILLADOK_LIB_DIR/libhost.a
+		echo "the archive is $archive"
+		return
+	fi
+	needs rt "the Rattle kit's command"
+	archive=$top/target/staticlib/libhost.a
+	(cd "$top" && rt staticlib host) >"$made/rt.log" 2>&1 || {
+		cat "$made/rt.log" >&2
+		fail "rt staticlib host fails"
+	}
+	[ -f "$archive" ] || fail "rt staticlib host made no libhost.a"
+}
