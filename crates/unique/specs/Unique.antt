@@ -53,27 +53,27 @@ print-says r s e = λ i. record { refusal = e i .refusal; name = e i .name; kind
 policy-says : (r s : Policy) → numbers r ≡ numbers s → r ≡ s
 policy-says r s e = λ i. record { form = e i .form; kind = e i .kind; request = e i .requestHeaders; query = e i .queryParameters; response = e i .responseHeaders }
 
--- the tree's answer, and the whole node table
+-- `parser::read_tree`: the tree's answer, and the whole node table
 pub read-tree-unique : Unique read_tree.Kinds.ps read_tree.Kinds.r read_tree.Reads.Post
 read-tree-unique κs a r s v w e f = (tree-says r s (meet (e .0) (f .0)), λ i. (tt, (meet (e .1) (f .1) i, tt)))
 
--- the end of the run
+-- `parser::scan::run_of`: the end of the run
 pub run-of-unique : Unique run_of.Kinds.ps run_of.Kinds.r run_of.Reads.Post
 run-of-unique κs a r s v w e f = (λ i. record { 0 = meet e f i }, refl)
 
--- the whole table
+-- `parser::row::clear`: the whole table
 pub clear-unique : Unique clear.Kinds.ps clear.Kinds.r clear.Reads.Post
 clear-unique κs a r s v w e f = (refl, λ i. (meet e f i, (tt, tt)))
 
--- the printer's answer, and the whole output
+-- `create_cel_expr::print_policy`: the answer, and the whole output
 pub print-policy-unique : Unique print_policy.Kinds.ps print_policy.Kinds.r print_policy.Reads.Post
 print-policy-unique κs a r s v w e f = (print-says r s (meet (e .0) (f .0)), λ i. (tt, (tt, (tt, (meet (e .1) (f .1) i, tt)))))
 
--- the same
+-- `create_cel_expr::print_known`: the same clauses
 pub print-known-unique : Unique print_known.Kinds.ps print_known.Kinds.r print_known.Reads.Post
-print-known-unique κs a r s v w e f = (print-says r s (meet (e .0) (f .0)), λ i. (tt, (tt, (tt, (meet (e .1) (f .1) i, tt)))))
+print-known-unique = print-policy-unique
 
--- the tree's answer and the policy's numbers, and both whole tables
+-- `ast_mapping::read_policy`: the tree's answer and the policy's numbers, and both whole tables
 pub read-policy-unique : Unique read_policy.Kinds.ps read_policy.Kinds.r read_policy.Reads.Post
 read-policy-unique κs a r s v w e f = (
   λ i. record {
@@ -83,50 +83,50 @@ read-policy-unique κs a r s v w e f = (
   λ i. (tt, (meet (e .1 .0) (f .1 .0) i, (meet (e .1 .1) (f .1 .1) i, tt))),
 )
 
--- the number, and the whole output
+-- `host::canonicalise`: the number, and the whole output
 pub canonicalise-unique : Unique canonicalise.Kinds.ps canonicalise.Kinds.r canonicalise.Reads.Post
 canonicalise-unique κs a r s v w e f = (meet (e .0) (f .0), λ i. (tt, (meet (e .1) (f .1) i, tt)))
 
--- the same
+-- `host::hilladok_canonicalise`: the same clauses
 pub hilladok-canonicalise-unique : Unique hilladok_canonicalise.Kinds.ps hilladok_canonicalise.Kinds.r hilladok_canonicalise.Reads.Post
-hilladok-canonicalise-unique κs a r s v w e f = (meet (e .0) (f .0), λ i. (tt, (meet (e .1) (f .1) i, tt)))
+hilladok-canonicalise-unique = canonicalise-unique
 
--- the line
+-- `lines::none`: the line
 pub none-unique : Unique none.Kinds.ps none.Kinds.r none.Reads.Post
 none-unique κs a r s v w e f = (meet e f, refl)
 
--- how many bytes, and the whole output
+-- `lines::unhex`: how many bytes, and the whole output
 pub unhex-unique : Unique unhex.Kinds.ps unhex.Kinds.r unhex.Reads.Post
 unhex-unique κs a r s v w e f = (meet (e .0) (f .0), λ i. (tt, (meet (e .1 .0) (f .1 .0) i, tt)))
 
--- the number
+-- `lines::decimal`: the number
 pub decimal-unique : Unique decimal.Kinds.ps decimal.Kinds.r decimal.Reads.Post
 decimal-unique κs a r s v w e f = (meet (e .0) (f .0), refl)
 
--- the number and where its field ends
+-- `lines::number_after`: the number, and where its field ends
 pub number-after-unique : Unique number_after.Kinds.ps number_after.Kinds.r number_after.Reads.Post
 number-after-unique κs a r s v w e f = (meet (e .0) (f .0), refl)
 
--- the bytes
+-- `lines::filled`: the bytes
 pub filled-unique : Unique filled.Kinds.ps filled.Kinds.r filled.Reads.Post
 filled-unique κs a r s v w e f = (meet (e .0) (f .0), refl)
 
--- the place after the piece, and the whole output
+-- `lines::put`: the place after the piece, and the whole output
 pub put-unique : Unique put.Kinds.ps put.Kinds.r put.Reads.Post
 put-unique κs a r s v w e f = (λ i. meet (e .0) (f .0) i .at, λ i. (meet (e .0) (f .0) i .out, (tt, (tt, tt))))
 
--- the same
+-- `lines::put_bad`: likewise
 pub put-bad-unique : Unique put_bad.Kinds.ps put_bad.Kinds.r put_bad.Reads.Post
 put-bad-unique κs a r s v w e f = (λ i. meet (e .0) (f .0) i .at, λ i. (meet (e .0) (f .0) i .out, tt))
 
--- the same
+-- `lines::put_number`: likewise
 pub put-number-unique : Unique put_number.Kinds.ps put_number.Kinds.r put_number.Reads.Post
 put-number-unique κs a r s v w e f = (λ i. meet (e .0) (f .0) i .at, λ i. (meet (e .0) (f .0) i .out, (tt, (tt, tt))))
 
--- the same
+-- `lines::put_words`: likewise
 pub put-words-unique : Unique put_words.Kinds.ps put_words.Kinds.r put_words.Reads.Post
 put-words-unique κs a r s v w e f = (λ i. meet (e .0) (f .0) i .at, λ i. (meet (e .0) (f .0) i .out, (tt, (tt, (tt, tt)))))
 
--- the same
+-- `lines::put_hex`: likewise
 pub put-hex-unique : Unique put_hex.Kinds.ps put_hex.Kinds.r put_hex.Reads.Post
 put-hex-unique κs a r s v w e f = (λ i. meet (e .0) (f .0) i .at, λ i. (meet (e .0) (f .0) i .out, (tt, (tt, (tt, tt)))))
