@@ -1,2 +1,2 @@
-// That each public function has one answer: of any two that meet its contract, and that leave what was lent as it says, both are the same.
-// The statements are in specs/, over the contracts themselves. There is no code here: nothing rests on this crate.
+// Each public function has one answer: any two that meet its contract are equal, and so is all that they leave in what was lent.
+// The statements are in specs/, over the contracts themselves. There is no code here, and nothing rests on this crate.
