@@ -7,4 +7,3 @@ pub mod Parts
 pub mod Written
 pub mod Spans
 pub mod Policies
-pub mod Same

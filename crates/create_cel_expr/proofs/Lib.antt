@@ -4,4 +4,3 @@ pub mod Sums
 pub mod Faults
 pub mod Shapes
 pub mod Verdicts
-pub mod Same

@@ -1,4 +1,3 @@
--- Lemmas on what the contracts cite, and that the contracts have one answer.
+-- Lemmas on what the contracts cite.
 mod Fields
 mod Pieces
-mod Same

@@ -7,5 +7,4 @@ mod Values
 mod Lists
 mod Handed
 pub mod Answers
-pub mod Same
 pub mod Accepted
