@@ -10,6 +10,7 @@ use borrow.Fn.Kinds.{PK, RK, Out, Dens, resT, endedOf}
 use Rattle.parser.specs.Found.{told}
 use Rattle.parser.specs.declared.Answer.{Answer}
 use Rattle.parser.proofs.read_tree
+use Rattle.parser.proofs.read_zeroed as tree_zeroed
 use Rattle.parser.proofs.scan.run_of
 use Rattle.parser.proofs.row.clear
 use Rattle.create_cel_expr.specs.Given.{numbers, told as printTold}
@@ -18,6 +19,7 @@ use Rattle.create_cel_expr.specs.declared.Policy.{Policy}
 use Rattle.create_cel_expr.proofs.print_policy
 use Rattle.create_cel_expr.proofs.print_known
 use Rattle.ast_mapping.proofs.read_policy
+use Rattle.ast_mapping.proofs.read_zeroed as policy_zeroed
 use Rattle.host.proofs.canonicalise
 use Rattle.host.proofs.hilladok_canonicalise
 use Rattle.lines.proofs.none
@@ -57,6 +59,10 @@ policy-says r s e = λ i. record { form = e i .form; kind = e i .kind; request =
 pub read-tree-unique : Unique read_tree.Kinds.ps read_tree.Kinds.r read_tree.Reads.Post
 read-tree-unique κs a r s v w e f = (tree-says r s (meet (e .0) (f .0)), λ i. (tt, (meet (e .1) (f .1) i, tt)))
 
+-- `parser::read_zeroed`: the same
+pub tree-zeroed-unique : Unique tree_zeroed.Kinds.ps tree_zeroed.Kinds.r tree_zeroed.Reads.Post
+tree-zeroed-unique κs a r s v w e f = (tree-says r s (meet (e .0) (f .0)), λ i. (tt, (meet (e .1) (f .1) i, tt)))
+
 -- `parser::scan::run_of`: the end of the run
 pub run-of-unique : Unique run_of.Kinds.ps run_of.Kinds.r run_of.Reads.Post
 run-of-unique κs a r s v w e f = (λ i. record { 0 = meet e f i }, refl)
@@ -82,6 +88,10 @@ read-policy-unique κs a r s v w e f = (
   },
   λ i. (tt, (meet (e .1 .0) (f .1 .0) i, (meet (e .1 .1) (f .1 .1) i, tt))),
 )
+
+-- `ast_mapping::read_zeroed`: the same clauses
+pub policy-zeroed-unique : Unique policy_zeroed.Kinds.ps policy_zeroed.Kinds.r policy_zeroed.Reads.Post
+policy-zeroed-unique = read-policy-unique
 
 -- `host::canonicalise`: the number, and the whole output
 pub canonicalise-unique : Unique canonicalise.Kinds.ps canonicalise.Kinds.r canonicalise.Reads.Post
