@@ -19,7 +19,7 @@ fn answer(line: &[u8], out: &mut [u8]) -> usize
     let mut text = text_room();
     let count = lines::unhex(line, &mut text);
     let Count::Number(n) = count else {
-        return lines::put(out, 0, b"bad line\n\n");
+        return lines::put_bad(out);
     };
     let end = report::report(&text[..n], out);
     lines::put(out, end, b"\n")

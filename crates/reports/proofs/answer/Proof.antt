@@ -2,7 +2,7 @@
 use mathlib.Core.Path.{sym, subst}
 use lib.ListN.{length}
 use lib.Seq.{length-take-le}
-use Rattle.lines.specs.Within.{Fitting}
+use Rattle.lines.specs.Fields.{AtMost}
 use borrow.Author.Needs.{needs}
 use Rattle.reports.proofs.answer.Statement.{statement}
 use Rattle.reports.proofs.answer.Tie as tie
@@ -22,11 +22,8 @@ enum-known-count c = search needs
 enum-told : tie.Need-enum-told
 enum-told c = search needs
 
-slice-aggregate-put : tie.Need-slice-aggregate-put
-slice-aggregate-put c = search needs
-
-put-requires : tie.Need-put-requires
-put-requires c κs = search needs
+put-bad-requires : tie.Need-put-bad-requires
+put-bad-requires c κs = search needs
 
 same-length : tie.Need-same-length
 same-length c = search needs
@@ -35,19 +32,19 @@ returns : tie.Need-returns
 returns c = search needs
 
 array-share-prefix-text : tie.Need-array-share-prefix-text
-array-share-prefix-text c = subst (Fitting (length (c .before .before .before .before .unhex .last .1 .0))) (c .before .count .given .1) (c .before .before .before .before .unhex .ensures)
+array-share-prefix-text c = subst (AtMost (length (c .before .before .before .before .unhex .last .1 .0))) (c .before .count .given .1) (c .before .before .before .before .unhex .ensures .1 .1)
 
 slice-aggregate-report : tie.Need-slice-aggregate-report
-slice-aggregate-report c = sym (length-take-le _ (c .before .before .before .before .before .unhex .last .1 .0) (subst (Fitting (length (c .before .before .before .before .before .unhex .last .1 .0))) (c .before .before .count .given .1) (c .before .before .before .before .before .unhex .ensures)))
+slice-aggregate-report c = sym (length-take-le _ (c .before .before .before .before .before .unhex .last .1 .0) (subst (AtMost (length (c .before .before .before .before .before .unhex .last .1 .0))) (c .before .before .count .given .1) (c .before .before .before .before .before .unhex .ensures .1 .1)))
 
 report-requires : tie.Need-report-requires
 report-requires c κs = search needs
 
-slice-aggregate-put-2 : tie.Need-slice-aggregate-put-2
-slice-aggregate-put-2 c = search needs
+slice-aggregate-put : tie.Need-slice-aggregate-put
+slice-aggregate-put c = search needs
 
-put-requires-2 : tie.Need-put-requires-2
-put-requires-2 c κs = search needs
+put-requires : tie.Need-put-requires
+put-requires c κs = search needs
 
 same-length-2 : tie.Need-same-length-2
 same-length-2 c = search needs
@@ -64,14 +61,13 @@ answer-spec =
     unhex-requires
     enum-known-count
     enum-told
-    slice-aggregate-put
-    put-requires
+    put-bad-requires
     same-length
     returns
     array-share-prefix-text
     slice-aggregate-report
     report-requires
-    slice-aggregate-put-2
-    put-requires-2
+    slice-aggregate-put
+    put-requires
     same-length-2
     returns-2)

@@ -2,14 +2,14 @@
 use mathlib.Core.Path.{_≡_, refl, sym, _∙_}
 use lib.ListN.{length}
 use lib.Seq.{length-take-le}
-use native.Mathlib.Omega.{arith}
-use Rattle.lines.specs.Within.{Line-in}
+use Rattle.lines.specs.Input.{Inside, nothing-inside}
 use Rattle.reports.proofs.serve.Statement.{statement}
 use Rattle.reports.proofs.serve.Tie as tie
 use borrow.Author.Needs.{needs}
+use native.Mathlib.Omega.{arith}
 
 abbrev Inv-loop : tie.InvT-loop
-Inv-loop input₀ out₀ line₀ turns₀ input out line turns = (Line-in (line .from) (line .to) (line .held) (length input)) × (length input ≡ length input₀) × (length out ≡ length out₀)
+Inv-loop input₀ out₀ line₀ turns₀ input out line turns = Inside line (length input) × (length input ≡ length input₀) × (length out ≡ length out₀)
 
 abbrev μ-loop : tie.MeasureT-loop
 μ-loop input₀ out₀ line₀ turns₀ input out line turns = turns
@@ -18,7 +18,7 @@ none-requires : tie.Need-none-requires Inv-loop μ-loop
 none-requires c κs = search needs
 
 loop-holds : tie.Need-loop-holds Inv-loop μ-loop
-loop-holds c = (record { ordered = c .none .ensures .ordered; inside = c .none .ensures .inside; room = omega (arith, c .none .ensures .room) }, refl, refl)
+loop-holds c = (nothing-inside (c .none .result) _ (c .none .ensures), refl, refl)
 
 next-requires : tie.Need-next-requires Inv-loop μ-loop
 next-requires c κs = c .before .before .loop .inv .0
