@@ -23,8 +23,8 @@ use Rattle.cel_policy.specs.Answers.{unread, judged, mapTree, findPolicy, Polic
 use Rattle.cel_policy.specs.Laws.Shape.{Shape, skips, certifies}
 use Rattle.cel_policy.specs.Laws.Counts.{size, Meets, meets-mapping}
 use Rattle.parser.specs.Found.{told}
-use Rattle.create_cel_expr.specs.declared.Policy.{Policy as Numbers}
-use Rattle.create_cel_expr.specs.Given.{numbers as given}
+use Rattle.cel_policy.specs.declared.Policy.{Policy as Numbers}
+use Rattle.cel_policy.specs.Policy.{numbers as given}
 use Rattle.parser.specs.declared.Answer.{Answer}
 use Rattle.parser.proofs.Answers.{clearedFrom, hold-front}
 use Rattle.ast_mapping.specs.declared.PolicyAnswer.{PolicyAnswer as Told-answer}

@@ -13,8 +13,8 @@ use Rattle.cel_policy.specs.Mapping.{Mapped, good, bad}
 use Rattle.cel_policy.specs.Spans.{spanRows, spanTable, spanWords}
 use Rattle.cel_policy.specs.Laws.SpanTable.{spanRows-append, length-spanRows}
 use Rattle.parser.specs.Found.{told}
-use Rattle.create_cel_expr.specs.declared.Policy.{Policy as Numbers}
-use Rattle.create_cel_expr.specs.Given.{numbers as given}
+use Rattle.cel_policy.specs.declared.Policy.{Policy as Numbers}
+use Rattle.cel_policy.specs.Policy.{numbers as given}
 use Rattle.parser.specs.declared.Answer.{Answer}
 use Rattle.parser.specs.declared.Node.{Node as Numbered}
 use Rattle.parser.proofs.Rows.{sets-append}

@@ -14,8 +14,8 @@ use Rattle.cel_policy.specs.Mapping.{Mapped, good, bad}
 use Rattle.cel_policy.specs.Spans.{spanRows, spanTable, spanWords}
 use Rattle.cel_policy.specs.Answers.{PolicyAnswer, policyAnswer, policyNodes, policySpans}
 use Rattle.parser.specs.Found.{told}
-use Rattle.create_cel_expr.specs.declared.Policy.{Policy as Numbers}
-use Rattle.create_cel_expr.specs.Given.{numbers as given}
+use Rattle.cel_policy.specs.declared.Policy.{Policy as Numbers}
+use Rattle.cel_policy.specs.Policy.{numbers as given}
 use Rattle.parser.specs.declared.Answer.{Answer as Tree-answer}
 use Rattle.ast_mapping.specs.declared.mapping.Mapped.{Mapped as Told-policy}
 use Rattle.ast_mapping.specs.declared.mapping.Mapped.the-variants.{Skip, ResponseOnly, Full, Refused}

@@ -6,7 +6,7 @@ pub mod name;
 mod row;
 mod span;
 
-use create_cel_expr::Policy;
+use cel_policy::Policy;
 use parser::Answer;
 ghost use mathlib.Core.Path.{_≡_};
 ghost use Prim.Native.Nat.{_≤_};

@@ -2,9 +2,9 @@
 ghost use mathlib.Core.Path.{_≡_};
 ghost use Prim.Native.Nat.{_+_, _*_, _≤_};
 ghost use lib.ListN.{length};
-ghost use Rattle.cel_policy.specs.Policy.{noPolicy};
+ghost use Rattle.cel_policy.specs.Policy.{noPolicy, numbers as given};
 ghost use Rattle.parser.specs.Found.{told};
-ghost use Rattle.create_cel_expr.specs.Given.{numbers as given};
+
 ghost use Rattle.ast_mapping.specs.declared.mapping.Mapped.the-variants.{ResponseOnly, Full};
 ghost use Rattle.ast_mapping.specs.View.{stringsOf, Tabled};
 ghost use Rattle.ast_mapping.specs.Steps.{mappedAs, MappedIn};
@@ -13,10 +13,10 @@ use crate::PolicyAnswer;
 use crate::SPAN_WORDS;
 use crate::mapping::Mapped;
 use crate::row;
-use create_cel_expr::FULL;
-use create_cel_expr::Policy;
-use create_cel_expr::RESPONSE_ONLY;
-use create_cel_expr::SKIP;
+use cel_policy::FULL;
+use cel_policy::Policy;
+use cel_policy::RESPONSE_ONLY;
+use cel_policy::SKIP;
 use parser::Answer;
 use parser::Node;
 use parser::ROW_WORDS;

@@ -5,6 +5,7 @@ use mathlib.Core.List.{List, _++_, map}
 use lib.ListN.{length}
 use lib.Seq.{slice}
 use Rattle.cel_text.specs.Byte.{Text}
+use Rattle.cel_policy.specs.declared.Policy.{Policy as Numbers}
 
 -- the forms
 abbrev pub noForm : ℕ
@@ -90,3 +91,7 @@ content x s = slice (s .from) (s .to) x
 
 abbrev pub strings : Text → Policy Span → Policy Text
 strings x p = overStrings (content x) p
+
+-- the struct that the programs give and answer
+abbrev pub numbers : Numbers → Counted
+numbers p = record { form = p .form; kind = p .kind; requestHeaders = p .request; queryParameters = p .query; responseHeaders = p .response }

@@ -1,16 +1,17 @@
 -- Laws of `over`: what a copy into a part of the buffer leaves, and pieces written one after the other. Assumes nothing.
 use mathlib.Core.Path.{_≡_, refl, sym, ap, subst, _∙_}
 use Prim.Native.Nat.{ℕ, zero, suc, _+_, _-_, _≤_}
-use native.Mathlib.Nat.{add-zero, sub-zero, zero-sub, suc-sub-suc}
+use native.Mathlib.Nat.{add-zero}
 use mathlib.Core.List.{List, [], _∷_, _++_, append-assoc, append-nil}
 use lib.ListN.{length, take, drop, length-append, length-drop, drop-of-length-le, take-append-drop}
-use lib.Seq.{slice, take-all, take-length, drop-drop, length-take-le, take-at, take-nil, drop-append-add}
+use lib.Seq.{slice, take-all, take-length, drop-drop, length-take-le, take-at, drop-append-add}
 use native.Mathlib.Omega.{arith}
 use borrow.Rule.Slice.PartMut.{putMid, midOf}
 use Rattle.cel_text.specs.Byte.{Text}
 use Rattle.cel_text.specs.Table.{Words}
 use Rattle.cel_policy.specs.Policy.{content}
 use Rattle.cel_policy.specs.Spans.{spanAt}
+use Rattle.parser.proofs.Runs.{part-slice}
 use Rattle.create_cel_expr.specs.Over.{over, fits, Wrote}
 
 -- t copied to the front of what stands from `at` on
@@ -53,13 +54,6 @@ room-then {out = out} {out′ = out′} {at = at} {t = t} a u h =
     let room : at + (length t + length u) ≤ length out = rw length-append at h in
     let long : length out′ ≡ length out = ap length (a .buffer) ∙ length-over out at t (omega arith) in
     omega (arith, a .place)
-
--- a part of a slice is `slice`
-pub part-slice : (f t : ℕ) (l : Text) → take (t - f) (drop f l) ≡ slice f t l
-part-slice zero t l = rw sub-zero
-part-slice (suc f) zero l = rw zero-sub
-part-slice (suc f) (suc t) [] = take-nil (suc t - suc f)
-part-slice (suc f) (suc t) (b ∷ l) = rw suc-sub-suc (part-slice f t l)
 
 -- the part of the text that string i's span marks
 pub part-content : (x : Text) (ws : Words) (i from to : ℕ) → from ≡ spanAt ws i .from → to ≡ spanAt ws i .to → take (to - from) (drop from x) ≡ content x (spanAt ws i)

@@ -6,14 +6,11 @@ use lib.ListN.{length}
 use Rattle.cel_text.specs.Byte.{Text}
 use Rattle.cel_text.specs.Table.{Words}
 use Rattle.cel_policy.specs.Policy
-use Rattle.cel_policy.specs.Policy.{Counted, content, strings}
+use Rattle.cel_policy.specs.Policy.{content, strings, numbers}
 use Rattle.cel_policy.specs.Spans.{spanAt, spansAt}
 use Rattle.cel_policy.specs.Answers.{PrintAnswer, placed}
-use Rattle.create_cel_expr.specs.declared.Policy.{Policy}
+use Rattle.cel_policy.specs.declared.Policy.{Policy}
 use Rattle.create_cel_expr.specs.declared.Printed.{Printed}
-
-abbrev pub numbers : Policy → Counted
-numbers p = record { form = p .form; kind = p .kind; requestHeaders = p .request; queryParameters = p .query; responseHeaders = p .response }
 
 abbrev pub told : Printed → PrintAnswer
 told r = record { refusal = r .refusal; name = r .name; kind = r .kind; place = r .place; length = r .length }

@@ -5,21 +5,14 @@ mod measure;
 mod span;
 mod write;
 
+use cel_policy::Policy;
 use judge::Verdict;
 ghost use mathlib.Core.Path.{_≡_};
 ghost use lib.ListN.{length};
+ghost use Rattle.cel_policy.specs.Policy.{numbers};
 ghost use Rattle.cel_policy.specs.Answers.{printAnswer, printOutput};
-ghost use Rattle.create_cel_expr.specs.Given.{numbers, told};
+ghost use Rattle.create_cel_expr.specs.Given.{told};
 ghost use Rattle.create_cel_expr.specs.Judged.{Faultless, Judges};
-
-// A policy as numbers: form, list kind, and how many strings each list has.
-pub struct Policy {
-    pub form: u32,
-    pub kind: u32,
-    pub request: u32,
-    pub query: u32,
-    pub response: u32,
-}
 
 // Document 01's answer of printing.
 pub struct Printed {
@@ -29,17 +22,6 @@ pub struct Printed {
     pub place: u32,
     pub length: u32,
 }
-
-// The forms, and the kinds of the response list; 0 is none.
-pub const SKIP: u32 = 1;
-
-pub const RESPONSE_ONLY: u32 = 2;
-
-pub const FULL: u32 = 3;
-
-pub const INCLUSIONS: u32 = 1;
-
-pub const EXCLUSIONS: u32 = 2;
 
 pub const MAX_TEXT: usize = 8192;
 

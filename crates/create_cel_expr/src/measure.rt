@@ -1,12 +1,11 @@
 // How long the printed text is, before any of it is written. Spans may overlap, so a sum can pass any number: each stops at 8,193.
 ghost use mathlib.Core.Path.{_≡_};
 ghost use Prim.Native.Nat.{_+_, _≤_, min};
-ghost use Rattle.cel_policy.specs.Policy.{stringCount};
-ghost use Rattle.create_cel_expr.specs.Given.{numbers};
+ghost use Rattle.cel_policy.specs.Policy.{stringCount, numbers};
 ghost use Rattle.create_cel_expr.specs.Measure.{bytesOf, listOf, textOf, Ordered};
-use crate::Policy;
-use crate::RESPONSE_ONLY;
-use crate::SKIP;
+use cel_policy::Policy;
+use cel_policy::RESPONSE_ONLY;
+use cel_policy::SKIP;
 use crate::span;
 
 const TOO_LONG: usize = 8193;

@@ -4,17 +4,17 @@ ghost use Prim.Native.Nat.{_+_, _≤_};
 ghost use lib.ListN.{length};
 ghost use mathlib.Core.List.{_++_};
 ghost use Rattle.cel_text.specs.Byte.{bytes};
-ghost use Rattle.cel_policy.specs.Policy.{content};
+ghost use Rattle.cel_policy.specs.Policy.{content, numbers};
 ghost use Rattle.cel_policy.specs.Spans.{spanAt};
 ghost use Rattle.cel_policy.specs.Policy.{strings, stringCount};
 ghost use Rattle.cel_policy.specs.Answers.{placed};
 ghost use Rattle.cel_policy.specs.Printed.{listText, listKey, requestText, responseText, skipText, responseOnlyText, fullText, printed};
 ghost use Rattle.create_cel_expr.specs.Over.{Wrote, fits};
-ghost use Rattle.create_cel_expr.specs.Given.{numbers, policyOf, Inside, AllInside, listed};
-use crate::EXCLUSIONS;
-use crate::Policy;
-use crate::RESPONSE_ONLY;
-use crate::SKIP;
+ghost use Rattle.create_cel_expr.specs.Given.{policyOf, Inside, AllInside, listed};
+use cel_policy::EXCLUSIONS;
+use cel_policy::Policy;
+use cel_policy::RESPONSE_ONLY;
+use cel_policy::SKIP;
 use crate::span;
 
 pub(crate) fn put(out: &mut [u8], at: usize, piece: &[u8]) -> usize

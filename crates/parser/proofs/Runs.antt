@@ -1,12 +1,12 @@
 -- Where a run of a class of bytes ends. Assumes nothing.
 use mathlib.Core.Path.{_≡_, refl, sym, ap, subst, _∙_}
-use Prim.Native.Nat.{ℕ, zero, suc, _+_, _≤_, _<_}
-use native.Mathlib.Nat.{add-zero, zero-add}
+use Prim.Native.Nat.{ℕ, zero, suc, _+_, _-_, _≤_, _<_}
+use native.Mathlib.Nat.{add-zero, zero-add, sub-zero, zero-sub, suc-sub-suc}
 use native.Mathlib.Omega.{arith}
 use mathlib.Core.Bool.{Bool, true, false}
 use mathlib.Core.List.{[], _∷_}
-use lib.ListN.{length, drop, getD, drop-of-length-le, length-drop}
-use lib.Seq.{drop-cons, drop-drop, getD-drop}
+use lib.ListN.{length, take, drop, getD, drop-of-length-le, length-drop}
+use lib.Seq.{drop-cons, drop-drop, getD-drop, slice, take-nil}
 use lib.Dec.{T}
 use borrow.Author.Tests.{lt-ltb}
 use Rattle.cel_text.specs.Byte.{Text, lead, ascii}
@@ -93,3 +93,10 @@ all-ascii x h = zero-add (lead ascii x) ∙ leads x h
     leads (b ∷ bs) h =
         let rest : lead ascii bs ≡ length bs = leads bs (λ k l. h (suc k) (omega arith)) in
         rw (ascii-below b (h 0 (omega arith))) (omega arith)
+
+-- a part of a slice is `slice`
+pub part-slice : (f t : ℕ) (l : Text) → take (t - f) (drop f l) ≡ slice f t l
+part-slice zero t l = rw sub-zero
+part-slice (suc f) zero l = rw zero-sub
+part-slice (suc f) (suc t) [] = take-nil (suc t - suc f)
+part-slice (suc f) (suc t) (b ∷ l) = rw suc-sub-suc (part-slice f t l)

@@ -5,7 +5,7 @@ ghost use lib.ListN.{length};
 ghost use Rattle.lines.specs.Fields.{AtMost, Within};
 ghost use Rattle.prints.specs.Request.{WordEnds, PolicyEnds, Fitting};
 use crate::print;
-use create_cel_expr::Policy;
+use cel_policy::Policy;
 use lines::Count;
 use lines::Field;
 

@@ -1,7 +1,7 @@
 // `print_policy` called on what a request gives and lends, and its fields.
 ghost use Prim.Native.Nat.{_≤_};
 ghost use lib.ListN.{length};
-use create_cel_expr::Policy;
+use cel_policy::Policy;
 use lines::FILL_BYTE;
 
 // The answer and the whole output, and the line end.

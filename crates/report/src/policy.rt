@@ -1,6 +1,6 @@
 // An accepted text in words: its form, its lists, its nodes and depth, and its canonical text.
 ghost use Rattle.page.specs.Shown.{Shown};
-use create_cel_expr::Policy;
+use cel_policy::Policy;
 use page::put;
 use page::put_line;
 use page::put_number;
@@ -14,8 +14,8 @@ fn put_form(out: &mut [u8], at: usize, form: u32) -> usize
     ensures { λ r. ⌜ Shown (now (out .exit)) r ⌝ }
 {
     match form {
-        create_cel_expr::SKIP => put_line(out, at, b"Accepted: Skip. Nothing is certified."),
-        create_cel_expr::RESPONSE_ONLY => put_line(
+        cel_policy::SKIP => put_line(out, at, b"Accepted: Skip. Nothing is certified."),
+        cel_policy::RESPONSE_ONLY => put_line(
             out,
             at,
             b"Accepted: ResponseOnly. The response is certified, the request is not.",
@@ -136,7 +136,7 @@ fn put_response_title(out: &mut [u8], at: usize, kind: u32, count: usize) -> usi
     requires { ⌜ Shown (now out) at ⌝ }
     ensures { λ r. ⌜ Shown (now (out .exit)) r ⌝ }
 {
-    if kind != create_cel_expr::EXCLUSIONS {
+    if kind != cel_policy::EXCLUSIONS {
         return put_inclusions_title(out, at, count);
     }
     if count == 0 {
@@ -157,7 +157,7 @@ fn put_request(out: &mut [u8], at: usize, policy: Policy, text: &[u8], spans: &[
 {
     let request = policy.request as usize;
     let query = policy.query as usize;
-    if policy.form != create_cel_expr::FULL {
+    if policy.form != cel_policy::FULL {
         return at;
     }
     let end = put_request_title(out, at, request);
@@ -173,7 +173,7 @@ fn put_lists(out: &mut [u8], at: usize, policy: Policy, text: &[u8], spans: &[u3
 {
     let first = policy.request as usize + policy.query as usize;
     let count = policy.response as usize;
-    if policy.form == create_cel_expr::SKIP {
+    if policy.form == cel_policy::SKIP {
         return at;
     }
     let end = page::end_line(out, at);

@@ -13,9 +13,10 @@ use Rattle.parser.proofs.read_tree
 use Rattle.parser.proofs.read_zeroed as tree_zeroed
 use Rattle.parser.proofs.scan.run_of
 use Rattle.parser.proofs.row.clear
-use Rattle.create_cel_expr.specs.Given.{numbers, told as printTold}
+use Rattle.cel_policy.specs.Policy.{numbers}
+use Rattle.create_cel_expr.specs.Given.{told as printTold}
 use Rattle.create_cel_expr.specs.declared.Printed.{Printed}
-use Rattle.create_cel_expr.specs.declared.Policy.{Policy}
+use Rattle.cel_policy.specs.declared.Policy.{Policy}
 use Rattle.create_cel_expr.proofs.print_policy
 use Rattle.create_cel_expr.proofs.print_known
 use Rattle.ast_mapping.proofs.read_policy

@@ -2,7 +2,7 @@
 ghost use Prim.Native.Nat.{_≤_};
 ghost use lib.ListN.{length};
 use ast_mapping::name;
-use create_cel_expr::Policy;
+use cel_policy::Policy;
 use lines::put;
 use parser::ARRAY;
 use parser::FUNCTION;
@@ -80,8 +80,8 @@ fn put_form(out: &mut [u8], at: usize, form: u32) -> usize
     ensures { λ r. ⌜ r ≤ length (now (out .exit)) ⌝ }
 {
     match form {
-        create_cel_expr::SKIP => put(out, at, b"\tSkip"),
-        create_cel_expr::RESPONSE_ONLY => put(out, at, b"\tResponseOnly"),
+        cel_policy::SKIP => put(out, at, b"\tSkip"),
+        cel_policy::RESPONSE_ONLY => put(out, at, b"\tResponseOnly"),
         _ => put(out, at, b"\tFull"),
     }
 }
@@ -91,8 +91,8 @@ fn put_list_kind(out: &mut [u8], at: usize, kind: u32) -> usize
     ensures { λ r. ⌜ r ≤ length (now (out .exit)) ⌝ }
 {
     match kind {
-        create_cel_expr::INCLUSIONS => put(out, at, b"\tinclusions"),
-        create_cel_expr::EXCLUSIONS => put(out, at, b"\texclusions"),
+        cel_policy::INCLUSIONS => put(out, at, b"\tinclusions"),
+        cel_policy::EXCLUSIONS => put(out, at, b"\texclusions"),
         _ => put(out, at, b"\tnone"),
     }
 }

@@ -2,7 +2,7 @@
 use mathlib.Core.Path.{subst}
 use lib.ListN.{length}
 use native.Mathlib.Omega.{arith}
-use Rattle.create_cel_expr.specs.Given.{numbers}
+use Rattle.cel_policy.specs.Policy.{numbers}
 use Rattle.create_cel_expr.specs.Judged.{Judges}
 use Rattle.create_cel_expr.proofs.Verdicts.{answer-refused, answer-printed}
 use borrow.Author.Needs.{needs}

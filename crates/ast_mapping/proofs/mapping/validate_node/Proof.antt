@@ -6,7 +6,7 @@ use Rattle.cel_policy.specs.Names.{same, spelling}
 use Rattle.cel_policy.specs.Mapping.{bad, typed}
 use Rattle.parser.specs.Kinds.{kindOf}
 use Rattle.ast_mapping.specs.View.{word, nodeAt, typedAt}
-use Rattle.create_cel_expr.proofs.Pieces.{part-slice}
+use Rattle.parser.proofs.Runs.{part-slice}
 use Rattle.ast_mapping.proofs.View.{room, few}
 use Rattle.ast_mapping.proofs.Steps.{NameAt, wrong-kind, right-kind}
 use Rattle.ast_mapping.proofs.mapping.validate_node.Statement.{statement}

@@ -8,7 +8,7 @@ use lib.Seq.{slice}
 use Rattle.cel_policy.specs.Names.{same, spelling}
 use Rattle.ast_mapping.specs.View.{word}
 use Rattle.ast_mapping.specs.Steps.{foundAs, FoundIf}
-use Rattle.create_cel_expr.proofs.Pieces.{part-slice}
+use Rattle.parser.proofs.Runs.{part-slice}
 use Rattle.ast_mapping.proofs.View.{Child, past, room, later}
 use Rattle.ast_mapping.proofs.Walk.{Passed, before-first, none-passed, hit, miss, all-passed, passing}
 use Rattle.ast_mapping.proofs.row.lookup.Statement.{statement}

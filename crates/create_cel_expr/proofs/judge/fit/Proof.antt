@@ -1,7 +1,6 @@
 -- `judge::fit` meets its contract: where the strings are without fault, the measured length decides. Assumes nothing.
 use native.Mathlib.Omega.{arith}
-use Rattle.cel_policy.specs.Policy.{stringCount}
-use Rattle.create_cel_expr.specs.Given.{numbers}
+use Rattle.cel_policy.specs.Policy.{stringCount, numbers}
 use Rattle.create_cel_expr.proofs.Verdicts.{refused-23, refused-24, accepted, shaped-few, inside-ordered, all-inside}
 use Rattle.create_cel_expr.proofs.judge.fit.Statement.{statement}
 use Rattle.create_cel_expr.proofs.judge.fit.Tie as tie

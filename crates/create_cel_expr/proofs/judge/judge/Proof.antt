@@ -3,9 +3,8 @@ use mathlib.Core.Path.{sym, ap, _∙_}
 use native.Mathlib.Omega.{arith}
 use borrow.Author.Tests.{not-true, not-false}
 use Rattle.cel_text.specs.Byte.{stringByte}
-use Rattle.cel_policy.specs.Policy.{stringCount}
+use Rattle.cel_policy.specs.Policy.{stringCount, numbers}
 use Rattle.cel_policy.specs.Answers.{spanFits, bytesFit}
-use Rattle.create_cel_expr.specs.Given.{numbers}
 use Rattle.create_cel_expr.specs.Judged.{faultOf}
 use Rattle.create_cel_expr.proofs.Verdicts.{refused-20, refused-21, refused-22, shaped-few, all-inside, below}
 use borrow.Author.Needs.{needs}

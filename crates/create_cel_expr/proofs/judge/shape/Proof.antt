@@ -1,5 +1,5 @@
 -- `judge::shape` meets its contract: each return is one way through `shaped`. Assumes nothing.
-use Rattle.create_cel_expr.specs.Given.{numbers}
+use Rattle.cel_policy.specs.Policy.{numbers}
 use Rattle.create_cel_expr.proofs.Shapes.{kind-none, kind-odd, kind-some, skip-kind, skip-count, other-kind, response-request, response-count, no-form, full-count}
 use borrow.Author.Needs.{needs}
 use Rattle.create_cel_expr.proofs.judge.shape.Statement.{statement}

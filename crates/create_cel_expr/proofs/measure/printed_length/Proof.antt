@@ -1,8 +1,7 @@
 -- `measure::printed_length` meets its contract: what the form has around its lists, and the lists. Assumes nothing.
 use Prim.Native.Nat.{_+_}
 use native.Mathlib.Omega.{arith}
-use Rattle.cel_policy.specs.Policy.{stringCount}
-use Rattle.create_cel_expr.specs.Given.{numbers}
+use Rattle.cel_policy.specs.Policy.{stringCount, numbers}
 use Rattle.create_cel_expr.proofs.Sums.{ordered-part, text-skip, text-response-only, text-full}
 use borrow.Author.Needs.{needs}
 use Rattle.create_cel_expr.proofs.measure.printed_length.Statement.{statement}

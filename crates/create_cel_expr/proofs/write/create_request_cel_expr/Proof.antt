@@ -1,9 +1,8 @@
 -- `write::create_request_cel_expr` meets its contract: three pieces, one after the other. Assumes nothing.
 use lib.ListN.{length-append}
 use native.Mathlib.Omega.{arith}
-use Rattle.cel_policy.specs.Policy.{stringCount}
+use Rattle.cel_policy.specs.Policy.{stringCount, numbers}
 use Rattle.cel_policy.specs.Printed.{requestText}
-use Rattle.create_cel_expr.specs.Given.{numbers}
 use Rattle.create_cel_expr.proofs.Pieces.{wrote-then}
 use Rattle.create_cel_expr.proofs.Lists.{inside-part}
 use borrow.Author.Needs.{needs}

@@ -2,9 +2,8 @@
 use lib.ListN.{length-append}
 use native.Mathlib.Omega.{arith}
 use Prim.Native.Nat.{_+_}
-use Rattle.cel_policy.specs.Policy.{stringCount}
+use Rattle.cel_policy.specs.Policy.{stringCount, numbers}
 use Rattle.cel_policy.specs.Printed.{responseText}
-use Rattle.create_cel_expr.specs.Given.{numbers}
 use Rattle.create_cel_expr.proofs.Pieces.{wrote-then}
 use Rattle.create_cel_expr.proofs.Lists.{inside-part}
 use borrow.Author.Needs.{needs}
