@@ -4,7 +4,6 @@ ghost use Prim.Native.Nat.{_+_, _*_, _≤_};
 ghost use lib.ListN.{length};
 ghost use Rattle.cel_policy.specs.Policy.{noPolicy, numbers as given};
 ghost use Rattle.parser.specs.Found.{told};
-
 ghost use Rattle.ast_mapping.specs.declared.mapping.Mapped.the-variants.{ResponseOnly, Full};
 ghost use Rattle.ast_mapping.specs.View.{stringsOf, Tabled};
 ghost use Rattle.ast_mapping.specs.Steps.{mappedAs, MappedIn};

@@ -3,10 +3,10 @@ ghost use mathlib.Core.Path.{_≡_};
 ghost use Prim.Native.Nat.{_+_, _≤_, min};
 ghost use Rattle.cel_policy.specs.Policy.{stringCount, numbers};
 ghost use Rattle.create_cel_expr.specs.Measure.{bytesOf, listOf, textOf, Ordered};
+use crate::span;
 use cel_policy::Policy;
 use cel_policy::RESPONSE_ONLY;
 use cel_policy::SKIP;
-use crate::span;
 
 const TOO_LONG: usize = 8193;
 

@@ -11,11 +11,11 @@ ghost use Rattle.cel_policy.specs.Answers.{placed};
 ghost use Rattle.cel_policy.specs.Printed.{listText, listKey, requestText, responseText, skipText, responseOnlyText, fullText, printed};
 ghost use Rattle.create_cel_expr.specs.Over.{Wrote, fits};
 ghost use Rattle.create_cel_expr.specs.Given.{policyOf, Inside, AllInside, listed};
+use crate::span;
 use cel_policy::EXCLUSIONS;
 use cel_policy::Policy;
 use cel_policy::RESPONSE_ONLY;
 use cel_policy::SKIP;
-use crate::span;
 
 pub(crate) fn put(out: &mut [u8], at: usize, piece: &[u8]) -> usize
     requires { ⌜ fits (now out) at (now piece) ⌝ }

@@ -1,6 +1,6 @@
 -- Lemmas that the proofs of several functions cite.
 mod Classes
-mod Runs
+pub mod Runs
 mod Machine
 pub mod Rows
 mod Values
