@@ -2,7 +2,6 @@
 use mathlib.Core.Path.{_≡_, refl, sym, ap, _∙_}
 use Rattle.cel_policy.specs.Names.{same, spelling}
 use Rattle.ast_mapping.proofs.Names.{same-none, spelling-none}
-use borrow.Author.Needs.{needs}
 use Rattle.ast_mapping.proofs.name.is_name.Statement.{statement}
 use Rattle.ast_mapping.proofs.name.is_name.Tie as tie
 
