@@ -103,18 +103,8 @@ module _ {a b c s : ℕ} (r : Room a b c s) where
     pub fits-first : Fits w32 first
     fits-first = record { fits = omega (arith, r .few) }
 
-    module _ {second : ℕ} (f : second ≡ first + b) where
-      pub room-third : {s₁ s₂ : ℕ} → s₁ ≡ s → s₂ ≡ s₁ → 2 * (second + c) ≤ s₂
-      room-third h k = omega (arith, r .words)
-
-      pub fits-second : Fits w32 (second - first)
-      fits-second = record { fits = omega (arith, r .few) }
-
-      pub fits-third : {third : ℕ} → third ≡ second + c → Fits w32 (third - second)
-      fits-third g = record { fits = omega (arith, r .few) }
-
-pub sum-after : (a : ℕ) {from to : ℕ} → to ≡ from + a → from ≤ to
-sum-after a e = omega arith
+    pub room-third : {second s₁ s₂ : ℕ} → second ≡ first + b → s₁ ≡ s → s₂ ≡ s₁ → 2 * (second + c) ≤ s₂
+    room-third f h k = omega (arith, r .words)
 
 -- ---- the answer, and the words that are spare
 

@@ -1,8 +1,9 @@
 -- `span::put_full` meets its contract: the lists follow one another in the table. Assumes nothing.
+use native.Mathlib.Omega.{arith}
 use mathlib.Core.Path.{_≡_, _∙_}
 use lib.ListN.{length, length-append}
 use Rattle.ast_mapping.specs.View.{stringsOf}
-use Rattle.ast_mapping.proofs.Spans.{put-lists, Room, room-first, room-second, room-third, fits-first, fits-second, fits-third, sum-after}
+use Rattle.ast_mapping.proofs.Spans.{put-lists, Room, room-first, room-second, room-third, fits-first}
 use Rattle.ast_mapping.proofs.span.put_full.Statement.{statement}
 use Rattle.ast_mapping.proofs.span.put_full.Tie as tie
 
@@ -23,16 +24,16 @@ cast-t16 : tie.Need-cast-t16
 cast-t16 c = fits-first (room (c .before .before .before .before .before .before .before .before .before .before .before .before .before .before)) (c .before .before .before .before .before .before .before .before .before .before .put-list .ensures .count)
 
 sub-t17 : tie.Need-sub-t17
-sub-t17 c = sum-after (length (stringsOf (c .before .before .before .before .before .before .before .before .before .before .before .before .before .before .args .table .now) (c .before .before .before .before .before .before .before .before .before .before .before .before .before .before .args .query .0))) (c .before .before .before .before .before .before .put-list2 .ensures .count)
+sub-t17 c = omega (arith, c .before .before .before .before .before .before .put-list2 .ensures .count)
 
 cast-t18 : tie.Need-cast-t18
-cast-t18 c = fits-second (room (c .before .before .before .before .before .before .before .before .before .before .before .before .before .before)) (c .before .before .before .before .before .before .before .before .before .before .put-list .ensures .count) (c .before .before .before .before .before .before .put-list2 .ensures .count)
+cast-t18 c = omega (arith, room (c .before .before .before .before .before .before .before .before .before .before .before .before .before .before) .few, c .before .before .before .before .before .before .before .before .before .before .put-list .ensures .count, c .before .before .before .before .before .before .put-list2 .ensures .count)
 
 sub-t19 : tie.Need-sub-t19
-sub-t19 c = sum-after (length (stringsOf (c .before .before .before .before .before .before .before .before .before .before .before .before .before .before .args .table .now) (c .before .before .before .before .before .before .before .before .before .before .before .before .before .before .args .list .0))) (c .before .before .put-list3 .ensures .count)
+sub-t19 c = omega (arith, c .before .before .put-list3 .ensures .count)
 
 cast-t20 : tie.Need-cast-t20
-cast-t20 c = fits-third (room (c .before .before .before .before .before .before .before .before .before .before .before .before .before .before)) (c .before .before .before .before .before .before .before .before .before .before .put-list .ensures .count) (c .before .before .before .before .before .before .put-list2 .ensures .count) (c .before .before .put-list3 .ensures .count)
+cast-t20 c = omega (arith, room (c .before .before .before .before .before .before .before .before .before .before .before .before .before .before) .few, c .before .before .before .before .before .before .before .before .before .before .put-list .ensures .count, c .before .before .before .before .before .before .put-list2 .ensures .count, c .before .before .put-list3 .ensures .count)
 
 same-length : tie.Need-same-length
 same-length c = c .before .before .put-list3 .kept .1 .1 .0 ∙ c .before .before .before .before .before .before .put-list2 .kept .1 .1 .0 ∙ c .before .before .before .before .before .before .before .before .before .before .put-list .kept .1 .1 .0
