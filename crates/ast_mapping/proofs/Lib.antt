@@ -1,3 +1,4 @@
+pub mod Counts
 pub mod Names
 pub mod View
 pub mod Walk

@@ -20,8 +20,31 @@ spans-more : (w : Words) (k n : ℕ) → spansFrom w n k ++ (spanOf w (n + k) �
 spans-more w zero n = rw add-zero
 spans-more w (suc k) n = ap (λ (l : List Span). spanOf w n ∷ l) (ap (λ (i : ℕ). spansFrom w (suc n) k ++ (spanOf w i ∷ [])) (omega arith) ∙ spans-more w k (suc n))
 
+-- k rows from row a on, and one more
+module _ (a k : ℕ) where
+  rows-less : {end : ℕ} → a + suc k ≤ end → a + k ≤ end
+  rows-less h = omega arith
+
+  rows-more : {i : ℕ} → i < a + k → i < a + suc k
+  rows-more h = omega arith
+
+  row-last : {end : ℕ} → a + suc k ≤ end → a + k < end
+  row-last h = omega arith
+
+  row-inside : (a ≤ a + k) × (a + k < a + suc k)
+  row-inside = (omega arith, omega arith)
+
+  row-counted : {m : ℕ} → m ≡ k → (a + k ≡ a + m) × (m + 1 ≡ suc k)
+  row-counted e = (omega arith, omega arith)
+
 pub tabled : (w : Words) (x : Text) (n : ℕ) → Held w x n → Tabled w n
 tabled w x n h = record { begun = later w x n h; few = omega (arith, past w x n h, h .small); ended = omega (arith, past w x n h, within w x n h) }
+
+pub tabled-row : {w : Words} {n : ℕ} → Tabled w n → (i : ℕ) → i < word w n 7 → 8 * i + 8 ≤ length w
+tabled-row t i h = omega (arith, t .ended)
+
+pub tabled-small : {w : Words} {n : ℕ} → Tabled w n → (i : ℕ) → i < word w n 7 → i < 256
+tabled-small t i h = omega (arith, t .few)
 
 module _ (w : Words) (x : Text) where
   string-node : (m : Node Span) → Stands m w x → word w (number m) 0 ≡ stringKind → m ≡ leaf (number m) (spanOf w (number m))
@@ -86,13 +109,13 @@ module _ (w : Words) (x : Text) where
       unfolding elements element
       strings zero l k = record { before = childless; begins = begins-none (children (nodeAt w x n)); count = refl; are = refl }
       strings (suc k) l all-strings =
-          let s : Strings k = strings k (omega arith) (λ i a b. all-strings i a (omega arith)) in
-          let c : Child w x n h (s .before) (suc n + k) = next-child w x n h (s .begins) (omega (arith, s .count)) (omega arith) in
-          let here : nodeAt w x (suc n + k) ≡ leaf (suc n + k) (spanOf w (suc n + k)) = string-at (suc n + k) (c .is) (all-strings (suc n + k) (omega arith) (omega arith)) in
+          let s : Strings k = strings k (rows-less (suc n) k l) (λ i a b. all-strings i a (rows-more (suc n) k b)) in
+          let c : Child w x n h (s .before) (suc n + k) = next-child w x n h (s .begins) (row-counted (suc n) k (s .count) .0) (row-last (suc n) k l) in
+          let here : nodeAt w x (suc n + k) ≡ leaf (suc n + k) (spanOf w (suc n + k)) = string-at (suc n + k) (c .is) (all-strings (suc n + k) (row-inside (suc n) k .0) (row-inside (suc n) k .1)) in
           record {
             before = s .before ▹ slice (word w (suc n + k) 3) (word w (suc n + k) 4) x ∶ nodeAt w x (suc n + k);
             begins = c .begins;
-            count = rw here (omega (arith, s .count));
+            count = rw here (row-counted (suc n) k (s .count) .1);
             are = rw (here, s .are) (ap good (spans-more w k (suc n)));
           }
 

@@ -6,6 +6,8 @@ use mathlib.Core.List.{List, [], _∷_, _++_, append-nil, append-assoc}
 use lib.ListN.{length, take, drop, set, length-append, drop-of-length-le}
 use lib.Seq.{sets, sets-eq, length-sets, take-at}
 use borrow.Author.Tests.{ne-eqb, le-leb}
+use mir.Syntax.{w32}
+use mir.Val.{Fits}
 use Rattle.cel_text.specs.Table.{Words}
 use Rattle.cel_text.specs.Answer.{Answer as TreeAnswer}
 use Rattle.cel_policy.specs.Policy.{Span, Policy, stringCount, allStrings}
@@ -29,8 +31,22 @@ pub length-spansFrom : (w : Words) (m n : ℕ) → length (spansFrom w n m) ≡ 
 length-spansFrom w zero n = refl
 length-spansFrom w (suc m) n = ap suc (length-spansFrom w m (suc n))
 
-pub length-strings : (w : Words) (n : ℕ) → length (stringsOf w n) ≡ word w n 7 - suc n
+length-strings : (w : Words) (n : ℕ) → length (stringsOf w n) ≡ word w n 7 - suc n
 length-strings w n = length-spansFrom w (word w n 7 - suc n) (suc n)
+
+-- where the next string goes: at first, after one more, and after the last
+pub place-first : (from n : ℕ) → from ≡ from + (n - n)
+place-first from n = omega arith
+
+pub place-next : (from : ℕ) {n next at : ℕ} → n ≤ next → at ≡ from + (next - n) → at + 1 ≡ from + (next + 1 - n)
+place-next from h e = omega arith
+
+module _ (w : Words) (n from : ℕ) {next end at : ℕ} (is : end ≡ word w n 7) (first : n + 1 ≤ next) (place : at ≡ from + (next - (n + 1))) where
+  pub place-room : {l l₀ : ℕ} → 2 * (from + length (stringsOf w n)) ≤ l₀ → l ≡ l₀ → next < end → 2 * at + 2 ≤ l
+  place-room h e more = omega (arith, length-strings w n)
+
+  pub place-last : next ≤ end → end ≤ next → at ≡ from + length (stringsOf w n)
+  place-last h k = omega (arith, length-strings w n)
 
 -- one string more
 pub put-one : (w s : Words) (next end at : ℕ) → next < end
@@ -70,6 +86,25 @@ module _ (w : Words) (h q l : Numbered) (kind : ℕ) (s s₁ s₂ s₃ : Words) 
         rows = f .rows ∙ rw (two, place) (put-more s 0 (A ++ B) C) ∙ ap (λ (ss : List Span). sets s 0 (spanRows ss)) (append-assoc A B C);
         counts = cc (first, second, third);
       }
+
+-- three lists of a, b and c strings have room in s words
+pub record Room (a b c s : ℕ) : Type 0 where
+  pub words : 2 * (a + (b + c)) ≤ s
+  pub few : a + (b + c) ≤ 256
+
+module _ {a b c s : ℕ} (r : Room a b c s) where
+  pub room-first : 2 * (0 + a) ≤ s
+  room-first = omega (arith, r .words)
+
+  module _ {first : ℕ} (e : first ≡ 0 + a) where
+    pub room-second : {s₁ : ℕ} → s₁ ≡ s → 2 * (first + b) ≤ s₁
+    room-second h = omega (arith, r .words)
+
+    pub fits-first : Fits w32 first
+    fits-first = record { fits = omega (arith, r .few) }
+
+    pub room-third : {second s₁ s₂ : ℕ} → second ≡ first + b → s₁ ≡ s → s₂ ≡ s₁ → 2 * (second + c) ≤ s₂
+    room-third f h k = omega (arith, r .words)
 
 -- ---- the answer, and the words that are spare
 

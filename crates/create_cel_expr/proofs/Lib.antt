@@ -1,3 +1,4 @@
+pub mod Widths
 pub mod Pieces
 pub mod Lists
 pub mod Sums

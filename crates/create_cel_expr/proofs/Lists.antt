@@ -8,11 +8,11 @@ use native.Mathlib.Omega.{arith}
 use borrow.Author.Tests.{eq-eqb, ne-eqb}
 use Rattle.cel_text.specs.Byte.{Text, bytes}
 use Rattle.cel_text.specs.Table.{Words}
-use Rattle.cel_policy.specs.Policy.{Policy, content}
+use Rattle.cel_policy.specs.Policy.{Policy, Counted, stringCount, content}
 use Rattle.cel_policy.specs.Spans.{spanAt}
 use Rattle.cel_policy.specs.Printed.{joined, listText, listKey, printed, skipText, responseOnlyText, fullText}
 use Rattle.create_cel_expr.specs.Over.{over, fits, Wrote}
-use Rattle.create_cel_expr.specs.Given.{listed, Inside}
+use Rattle.create_cel_expr.specs.Given.{listed, Inside, AllInside}
 use Rattle.create_cel_expr.proofs.Pieces.{Remains, wrote-then, room-then, remains-all, remains-fits, remains-room, remains-next, remains-last}
 
 abbrev pub tails : List Text → Text
@@ -93,9 +93,19 @@ module _ (x : Text) (ws : Words) (begin count : ℕ) where
   last-then {out₀ = out₀} {out′ = out′} {at = at} {past′ = past′} {i = i} n h w le r v =
       subst (Wrote out₀ out′ at past′) (sym (list-first n)) (wrote-then w (remains-last (last-all i le r) v) (first-all out₀ at n h))
 
--- some of the strings
-pub inside-part : {ws : Words} {x : Text} (all n b : ℕ) → ((k : ℕ) → k < all → Inside ws x (0 + k)) → b + n ≤ all → (k : ℕ) → k < n → Inside ws x (b + k)
-inside-part {ws = ws} {x = x} all n b h le k lt = subst (Inside ws x) (zero-add (b + k)) (h (b + k) (omega arith))
+-- the strings of each of the three lists
+module _ {ws : Words} {x : Text} (k : Counted) (all : AllInside ws x (stringCount k) 0) where
+  inside-part : (n b : ℕ) → b + n ≤ stringCount k → AllInside ws x n b
+  inside-part n b le i lt = subst (Inside ws x) (zero-add (b + i)) (all (b + i) (omega arith))
+
+  pub inside-request : AllInside ws x (k .requestHeaders) 0
+  inside-request = inside-part (k .requestHeaders) 0 (omega arith)
+
+  pub inside-query : AllInside ws x (k .queryParameters) (k .requestHeaders)
+  inside-query = inside-part (k .queryParameters) (k .requestHeaders) (omega arith)
+
+  pub inside-response : AllInside ws x (k .responseHeaders) (k .requestHeaders + k .queryParameters)
+  inside-response = inside-part (k .responseHeaders) (k .requestHeaders + k .queryParameters) (omega arith)
 
 -- the two keys of the response list
 pub key-exclusions : (kind : ℕ) → kind ≡ 2 → listKey kind ≡ bytes "response_header_exclusions"

@@ -100,3 +100,31 @@ pub remains-last :
     {out out′ out₀ : Text} {past past′ at : ℕ} {t all : Text}
     → Remains out past t (over out₀ at all) (at + length all) → Wrote out out′ past past′ t → Wrote out₀ out′ at past′ all
 remains-last r w = record { place = w .place ∙ r .place; buffer = w .buffer ∙ r .buffer }
+
+-- ---- pieces that are written one after the other
+
+abbrev flat : List Text → Text
+flat [] = []
+flat (t ∷ []) = t
+flat (t ∷ (u ∷ more)) = t ++ flat (u ∷ more)
+
+-- what remains are these pieces
+pub record Left (ts : List Text) (out : Text) (past : ℕ) (final : Text) (end : ℕ) : Type 0 where
+  rest : Remains out past (flat ts) final end
+
+pub left-all : (ts : List Text) (out : Text) (at : ℕ) → fits out at (flat ts) → Left ts out at (over out at (flat ts)) (at + length (flat ts))
+left-all ts out at h = record { rest = remains-all out at (flat ts) h }
+
+pub left-room : {t : Text} {ts : List Text} {out final : Text} {past end : ℕ} → Left (t ∷ ts) out past final end → fits out past t
+left-room {ts = []} r = remains-fits (r .rest)
+left-room {t = t} {ts = u ∷ more} r = remains-room t (flat (u ∷ more)) (r .rest)
+
+pub left-next :
+    {t u : Text} {ts : List Text} {out out′ final : Text} {past past′ end : ℕ}
+    → Left (t ∷ (u ∷ ts)) out past final end → Wrote out out′ past past′ t → Left (u ∷ ts) out′ past′ final end
+left-next {u = u} {ts = ts} r w = record { rest = remains-next (flat (u ∷ ts)) (r .rest) w }
+
+pub left-last :
+    {t all : Text} {out out′ out₀ : Text} {past past′ at : ℕ}
+    → Left (t ∷ []) out past (over out₀ at all) (at + length all) → Wrote out out′ past past′ t → Wrote out₀ out′ at past′ all
+left-last r w = remains-last (r .rest) w

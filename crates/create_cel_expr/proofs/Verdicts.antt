@@ -21,7 +21,7 @@ use Rattle.create_cel_expr.specs.Given.{Inside, AllInside, listed}
 use Rattle.create_cel_expr.specs.Over.{Wrote}
 use Rattle.create_cel_expr.specs.Judged.{Faultless, Prints}
 use Rattle.create_cel_expr.specs.Measure.{bytesOf, listOf, textOf, Ordered}
-use Rattle.create_cel_expr.proofs.Lists.{inside-part}
+use Rattle.create_cel_expr.proofs.Lists.{inside-request, inside-query, inside-response}
 use Rattle.create_cel_expr.proofs.Faults.{fits-inside, none-faulty, fault-below}
 
 module _ (k : Counted) (ws : Words) (x : Text) (room : ℕ) where
@@ -100,17 +100,14 @@ list-length ws x (suc n) i h =
 pub text-length : (k : Counted) (ws : Words) (x : Text) → AllInside ws x (stringCount k) 0 → length (printed (strings x (placed k ws))) ≡ textOf k ws
 text-length k ws x h = length-printed (strings x (placed k ws)) ∙ measured
   where
-    part : (n b : ℕ) → b + n ≤ stringCount k → listLength (listed x ws n b) ≡ listOf ws n b
-    part n b le = list-length ws x n b (inside-part (stringCount k) n b h le)
-
     request : listLength (listed x ws (k .requestHeaders) 0) ≡ listOf ws (k .requestHeaders) 0
-    request = part (k .requestHeaders) 0 (omega arith)
+    request = list-length ws x (k .requestHeaders) 0 (inside-request k h)
 
     query : listLength (listed x ws (k .queryParameters) (k .requestHeaders)) ≡ listOf ws (k .queryParameters) (k .requestHeaders)
-    query = part (k .queryParameters) (k .requestHeaders) (omega arith)
+    query = list-length ws x (k .queryParameters) (k .requestHeaders) (inside-query k h)
 
     response : listLength (listed x ws (k .responseHeaders) (k .requestHeaders + k .queryParameters)) ≡ listOf ws (k .responseHeaders) (k .requestHeaders + k .queryParameters)
-    response = part (k .responseHeaders) (k .requestHeaders + k .queryParameters) (omega arith)
+    response = list-length ws x (k .responseHeaders) (k .requestHeaders + k .queryParameters) (inside-response k h)
 
     all :
         274 + (listLength (listed x ws (k .requestHeaders) 0) + (listLength (listed x ws (k .queryParameters) (k .requestHeaders)) + listLength (listed x ws (k .responseHeaders) (k .requestHeaders + k .queryParameters))))

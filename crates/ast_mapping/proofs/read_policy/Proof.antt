@@ -1,6 +1,5 @@
 -- `read_policy` meets its contract: a short span table is refused first; then the tree is read, and from it the policy. Assumes nothing.
 use Rattle.ast_mapping.proofs.Policies.{ensured-short}
-use borrow.Author.Needs.{needs}
 use Rattle.ast_mapping.proofs.read_policy.Statement.{statement}
 use Rattle.ast_mapping.proofs.read_policy.Tie as tie
 
@@ -17,10 +16,10 @@ read-on-requires : tie.Need-read-on-requires
 read-on-requires c κs = (record { lent = c .before .before .before .before .before .before .before .before .before .before .args .nodes .now; answer = c .before .before .before .before .read-tree .ensures .0; table = c .before .before .before .before .read-tree .ensures .1 }, c .before .before .before .before .before .before .if1 .left)
 
 same-length : tie.Need-same-length
-same-length c = search needs
+same-length c = c .before .before .before .before .before .before .before .read-tree .kept .1 .0
 
 same-length-2 : tie.Need-same-length-2
-same-length-2 c = search needs
+same-length-2 c = c .before .before .read-on .kept .1 .1 .1 .0
 
 returns-2 : tie.Need-returns-2
 returns-2 c = c .before .before .read-on .ensures (c .before .before .before .before .before .before .before .before .before .before .before .before .before .args .nodes .now) (c .before .before .before .before .before .before .before .read-tree .ensures .0) (c .before .before .before .before .before .before .before .read-tree .ensures .1)

@@ -3,7 +3,6 @@ use mathlib.Core.Path.{sym, ap, _∙_}
 use Prim.Native.Nat.{ℕ}
 use Rattle.cel_text.specs.Answer.{treeAnswer}
 use Rattle.parser.proofs.Answers.{zeros-long}
-use borrow.Author.Needs.{needs}
 use Rattle.ast_mapping.proofs.read_zeroed.Statement.{statement}
 use Rattle.ast_mapping.proofs.read_zeroed.Tie as tie
 
@@ -14,10 +13,10 @@ read-on-requires : tie.Need-read-on-requires
 read-on-requires c κs = (record { lent = c .before .before .before .before .before .before .before .before .before .args .nodes .now; answer = (c .before .before .before .before .read-zeroed .ensures .0 ∙ ap (λ (n : ℕ). treeAnswer n (c .before .before .before .before .before .before .before .before .before .args .text .now)) (sym (zeros-long (c .before .before .before .before .before .before .before .before .before .pre .0)))); table = c .before .before .before .before .read-zeroed .ensures .1 }, c .before .before .before .before .before .before .before .before .before .pre .1)
 
 same-length : tie.Need-same-length
-same-length c = search needs
+same-length c = c .before .before .before .before .before .before .before .read-zeroed .kept .1 .0
 
 same-length-2 : tie.Need-same-length-2
-same-length-2 c = search needs
+same-length-2 c = c .before .before .read-on .kept .1 .1 .1 .0
 
 returns : tie.Need-returns
 returns c = c .before .before .read-on .ensures (c .before .before .before .before .before .before .before .before .before .before .before .before .args .nodes .now) (c .before .before .before .before .before .before .before .read-zeroed .ensures .0 ∙ ap (λ (n : ℕ). treeAnswer n (c .before .before .before .before .before .before .before .before .before .before .before .before .args .text .now)) (sym (zeros-long (c .before .before .before .before .before .before .before .before .before .before .before .before .pre .0)))) (c .before .before .before .before .before .before .before .read-zeroed .ensures .1)

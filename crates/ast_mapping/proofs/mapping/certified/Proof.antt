@@ -1,34 +1,33 @@
 -- `mapping::certified` meets its contract, case by case. Assumes nothing.
 use Rattle.ast_mapping.proofs.mapping.certified.Statement.{statement}
 use Rattle.ast_mapping.proofs.mapping.certified.Tie as tie
-use borrow.Author.Needs.{needs}
 
 enum-told : tie.Need-enum-told
-enum-told c = search needs
+enum-told c = c .match .keys1
 
 enum-known-response : tie.Need-enum-known-response
-enum-known-response c = search needs
+enum-known-response c = c .match2 .keys1
 
 enum-known-response-2 : tie.Need-enum-known-response-2
-enum-known-response-2 c = search needs
+enum-known-response-2 c = c .match2 .keys2
 
 enum-known-response-3 : tie.Need-enum-known-response-3
-enum-known-response-3 c = search needs
+enum-known-response-3 c = c .match2 .keys3
 
 enum-known-request : tie.Need-enum-known-request
-enum-known-request c = search needs
+enum-known-request c = c .match .keys2
 
 enum-known-response-4 : tie.Need-enum-known-response-4
-enum-known-response-4 c = search needs
+enum-known-response-4 c = c .match3 .keys1
 
 enum-known-response-5 : tie.Need-enum-known-response-5
-enum-known-response-5 c = search needs
+enum-known-response-5 c = c .match3 .keys2
 
 enum-known-response-6 : tie.Need-enum-known-response-6
-enum-known-response-6 c = search needs
+enum-known-response-6 c = c .match3 .keys3
 
 enum-known-request-2 : tie.Need-enum-known-request-2
-enum-known-request-2 c = search needs
+enum-known-request-2 c = c .match .keys3
 
 returns : tie.Need-returns
 returns c = rw (c .before .before .before .enum-told .given .1, c .before .response .given .1)

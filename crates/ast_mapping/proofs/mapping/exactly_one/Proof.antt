@@ -6,28 +6,27 @@ use Rattle.cel_policy.specs.Mapping.{bad}
 use Rattle.ast_mapping.proofs.Steps.{uses-none}
 use Rattle.ast_mapping.proofs.mapping.exactly_one.Statement.{statement}
 use Rattle.ast_mapping.proofs.mapping.exactly_one.Tie as tie
-use borrow.Author.Needs.{needs}
 
 enum-known-first : tie.Need-enum-known-first
-enum-known-first c = search needs
+enum-known-first c = c .match .keys1
 
 enum-told : tie.Need-enum-told
-enum-told c = search needs
+enum-told c = c .match2 .keys1
 
 refused-requires : tie.Need-refused-requires
 refused-requires c κs = omega arith
 
 enum-told-2 : tie.Need-enum-told-2
-enum-told-2 c = search needs
+enum-told-2 c = c .match2 .keys2
 
 enum-told-3 : tie.Need-enum-told-3
-enum-told-3 c = search needs
+enum-told-3 c = c .match .keys2
 
 enum-known-second : tie.Need-enum-known-second
-enum-known-second c = search needs
+enum-known-second c = c .match3 .keys1
 
 enum-told-4 : tie.Need-enum-told-4
-enum-told-4 c = search needs
+enum-told-4 c = c .match3 .keys2
 
 add-refused : tie.Need-add-refused
 add-refused c = omega arith

@@ -1,6 +1,7 @@
 -- `mapping::validate_node` meets its contract: the row's kind is tested first, then the name that its ends give. Assumes nothing.
 use mathlib.Core.Path.{_≡_, refl, sym, ap, _∙_}
-use native.Mathlib.Omega.{arith}
+use lib.Dec.{lit<}
+use Rattle.ast_mapping.proofs.Counts.{le-as}
 use lib.Seq.{slice}
 use Rattle.cel_policy.specs.Names.{same, spelling}
 use Rattle.cel_policy.specs.Mapping.{bad, typed}
@@ -19,7 +20,7 @@ spelled : (c : tie.After-is-name) → c .is-name .result ≡ same (slice (word (
 spelled c = rw (part-slice, c .before .before .before .word2 .ensures, c .before .before .word3 .ensures) at (c .is-name .ensures)
 
 word-requires : tie.Need-word-requires
-word-requires c κs = (room (c .before .before .args .table .now) (c .before .before .args .text .now) (c .before .before .args .node .0) (c .before .before .pre .0), omega arith)
+word-requires c κs = (room (c .before .before .args .table .now) (c .before .before .args .text .now) (c .before .before .args .node .0) (c .before .before .pre .0), lit< tt)
 
 refused-requires : tie.Need-refused-requires
 refused-requires c κs = few (c .before .before .before .before .args .table .now) (c .before .before .before .before .args .text .now) (c .before .before .before .before .args .node .0) (c .before .before .before .before .pre .0)
@@ -28,19 +29,19 @@ returns : tie.Need-returns
 returns c = ap bad (c .refused .ensures) ∙ wrong-kind (c .before .before .before .before .before .args .table .now) (c .before .before .before .before .before .args .text .now) (kindOf (c .before .before .before .before .before .args .kind)) (c .before .before .before .before .before .args .name) (c .before .before .before .before .before .args .node .0) (c .before .before .before .before .before .args .kind) (c .before .before .before .before .before .pre .0) (c .before .before .before .before .before .pre .1) (λ e. c .before .if1 .taken (c .before .before .word .ensures ∙ e))
 
 word-requires-2 : tie.Need-word-requires-2
-word-requires-2 c κs = (room (c .before .before .before .before .args .table .now) (c .before .before .before .before .args .text .now) (c .before .before .before .before .args .node .0) (c .before .before .before .before .pre .0), omega arith)
+word-requires-2 c κs = (room (c .before .before .before .before .args .table .now) (c .before .before .before .before .args .text .now) (c .before .before .before .before .args .node .0) (c .before .before .before .before .pre .0), lit< tt)
 
 word-requires-3 : tie.Need-word-requires-3
-word-requires-3 c κs = (room (c .before .before .before .before .before .args .table .now) (c .before .before .before .before .before .args .text .now) (c .before .before .before .before .before .args .node .0) (c .before .before .before .before .before .pre .0), omega arith)
+word-requires-3 c κs = (room (c .before .before .before .before .before .args .table .now) (c .before .before .before .before .before .args .text .now) (c .before .before .before .before .before .args .node .0) (c .before .before .before .before .before .pre .0), lit< tt)
 
 sub-is-name : tie.Need-sub-is-name
-sub-is-name c = omega (arith, c .before .word2 .ensures, c .word3 .ensures, right (c .before .before) .ordered)
+sub-is-name c = le-as (c .before .word2 .ensures) (c .word3 .ensures) (right (c .before .before) .ordered)
 
 part-is-name-start : tie.Need-part-is-name-start
-part-is-name-start c = omega (arith, c .before .word2 .ensures, c .word3 .ensures, right (c .before .before) .ordered)
+part-is-name-start c = le-as (c .before .word2 .ensures) (c .word3 .ensures) (right (c .before .before) .ordered)
 
 part-is-name-end : tie.Need-part-is-name-end
-part-is-name-end c = omega (arith, c .word3 .ensures, right (c .before .before) .inside)
+part-is-name-end c = le-as (c .word3 .ensures) refl (right (c .before .before) .inside)
 
 is-name-requires : tie.Need-is-name-requires
 is-name-requires c κs = tt

@@ -1,5 +1,6 @@
 -- `name::equal` meets its contract: two texts of one length are the same exactly where the bytes passed are and what is left is. Assumes
 -- nothing.
+use Rattle.ast_mapping.proofs.Counts.{le-as, lt-as, turn-within, turn-less}
 use mathlib.Core.Path.{_≡_, refl, sym, _∙_}
 use mathlib.Core.Bool.{_&&_}
 use Prim.Native.Nat.{suc, _-_, _≤_}
@@ -10,7 +11,6 @@ use Rattle.cel_policy.specs.Names.{same}
 use Rattle.ast_mapping.proofs.Names.{same-lengths, same-step, same-end, and-assoc}
 use Rattle.ast_mapping.proofs.name.equal.Statement.{statement}
 use Rattle.ast_mapping.proofs.name.equal.Tie as tie
-use borrow.Author.Needs.{needs}
 use native.Mathlib.Omega.{arith}
 
 abbrev Inv-loop : tie.InvT-loop
@@ -26,29 +26,31 @@ loop-holds : tie.Need-loop-holds Inv-loop μ-loop
 loop-holds c = (omega arith, omega arith, refl)
 
 shared-slice-read-still : tie.Need-shared-slice-read-still Inv-loop μ-loop
-shared-slice-read-still c = omega arith
+shared-slice-read-still c = c .before .loop-test .taken
 
 shared-slice-read-still-2 : tie.Need-shared-slice-read-still-2 Inv-loop μ-loop
-shared-slice-read-still-2 c = omega arith
+shared-slice-read-still-2 c = lt-as (c .before .before .before .loop .inv .1) (c .before .before .loop-test .taken)
 
 still-requires : tie.Need-still-requires Inv-loop μ-loop
-still-requires c κs = search needs
+still-requires c κs = tt
 
 add-i : tie.Need-add-i Inv-loop μ-loop
 add-i c = omega arith
 
 loop-less : tie.Need-loop-less Inv-loop μ-loop
-loop-less c = omega arith
+loop-less c = turn-less (c .before .before .before .loop-test .taken)
 
 loop-again : tie.Need-loop-again Inv-loop μ-loop
 loop-again c =
     let x = c .before .before .before .before .before .before .before .before .args .a .now in
     let y = c .before .before .before .before .before .before .before .before .args .b .now in
     let i = c .before .before .before .before .loop .i in
-    (omega arith, omega arith, c .before .before .before .before .loop .inv .2 ∙ rw (add-one, same-step x y i (omega arith) (omega arith), c .still .ensures) (and-assoc (c .before .before .before .before .loop .so) (eqb (getD x i 0) (getD y i 0)) (same (drop (suc i) x) (drop (suc i) y))))
+    let more = c .before .before .before .loop-test .taken in
+    let both = c .before .before .before .before .loop .inv .1 in
+    (turn-within more, both, c .before .before .before .before .loop .inv .2 ∙ rw (add-one, same-step x y i more (lt-as both more), c .still .ensures) (and-assoc (c .before .before .before .before .loop .so) (eqb (getD x i 0) (getD y i 0)) (same (drop (suc i) x) (drop (suc i) y))))
 
 returns-2 : tie.Need-returns-2 Inv-loop μ-loop
-returns-2 c = sym (c .before .loop .inv .2 ∙ same-end (c .before .before .before .before .before .args .a .now) (c .before .before .before .before .before .args .b .now) (c .before .loop .i) (c .before .loop .so) (omega arith) (omega arith))
+returns-2 c = sym (c .before .loop .inv .2 ∙ same-end (c .before .before .before .before .before .args .a .now) (c .before .before .before .before .before .args .b .now) (c .before .loop .i) (c .before .loop .so) (c .loop-test .left) (le-as (sym (c .before .loop .inv .1)) refl (c .loop-test .left)))
 
 pub equal-spec : {M : Type 1} → statement M
 equal-spec =

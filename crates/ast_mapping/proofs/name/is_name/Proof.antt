@@ -2,105 +2,104 @@
 use mathlib.Core.Path.{_≡_, refl, sym, ap, _∙_}
 use Rattle.cel_policy.specs.Names.{same, spelling}
 use Rattle.ast_mapping.proofs.Names.{same-none, spelling-none}
-use borrow.Author.Needs.{needs}
 use Rattle.ast_mapping.proofs.name.is_name.Statement.{statement}
 use Rattle.ast_mapping.proofs.name.is_name.Tie as tie
 
 slice-aggregate-equal : tie.Need-slice-aggregate-equal
-slice-aggregate-equal c = search needs
+slice-aggregate-equal c = refl
 
 equal-requires : tie.Need-equal-requires
-equal-requires c κs = search needs
+equal-requires c κs = tt
 
 slice-aggregate-equal-2 : tie.Need-slice-aggregate-equal-2
-slice-aggregate-equal-2 c = search needs
+slice-aggregate-equal-2 c = refl
 
 equal-requires-2 : tie.Need-equal-requires-2
-equal-requires-2 c κs = search needs
+equal-requires-2 c κs = tt
 
 slice-aggregate-equal-3 : tie.Need-slice-aggregate-equal-3
-slice-aggregate-equal-3 c = search needs
+slice-aggregate-equal-3 c = refl
 
 equal-requires-3 : tie.Need-equal-requires-3
-equal-requires-3 c κs = search needs
+equal-requires-3 c κs = tt
 
 slice-aggregate-equal-4 : tie.Need-slice-aggregate-equal-4
-slice-aggregate-equal-4 c = search needs
+slice-aggregate-equal-4 c = refl
 
 equal-requires-4 : tie.Need-equal-requires-4
-equal-requires-4 c κs = search needs
+equal-requires-4 c κs = tt
 
 slice-aggregate-equal-5 : tie.Need-slice-aggregate-equal-5
-slice-aggregate-equal-5 c = search needs
+slice-aggregate-equal-5 c = refl
 
 equal-requires-5 : tie.Need-equal-requires-5
-equal-requires-5 c κs = search needs
+equal-requires-5 c κs = tt
 
 slice-aggregate-equal-6 : tie.Need-slice-aggregate-equal-6
-slice-aggregate-equal-6 c = search needs
+slice-aggregate-equal-6 c = refl
 
 equal-requires-6 : tie.Need-equal-requires-6
-equal-requires-6 c κs = search needs
+equal-requires-6 c κs = tt
 
 slice-aggregate-equal-7 : tie.Need-slice-aggregate-equal-7
-slice-aggregate-equal-7 c = search needs
+slice-aggregate-equal-7 c = refl
 
 equal-requires-7 : tie.Need-equal-requires-7
-equal-requires-7 c κs = search needs
+equal-requires-7 c κs = tt
 
 slice-aggregate-equal-8 : tie.Need-slice-aggregate-equal-8
-slice-aggregate-equal-8 c = search needs
+slice-aggregate-equal-8 c = refl
 
 equal-requires-8 : tie.Need-equal-requires-8
-equal-requires-8 c κs = search needs
+equal-requires-8 c κs = tt
 
 slice-aggregate-equal-9 : tie.Need-slice-aggregate-equal-9
-slice-aggregate-equal-9 c = search needs
+slice-aggregate-equal-9 c = refl
 
 equal-requires-9 : tie.Need-equal-requires-9
-equal-requires-9 c κs = search needs
+equal-requires-9 c κs = tt
 
 slice-aggregate-equal-10 : tie.Need-slice-aggregate-equal-10
-slice-aggregate-equal-10 c = search needs
+slice-aggregate-equal-10 c = refl
 
 equal-requires-10 : tie.Need-equal-requires-10
-equal-requires-10 c κs = search needs
+equal-requires-10 c κs = tt
 
 slice-aggregate-equal-11 : tie.Need-slice-aggregate-equal-11
-slice-aggregate-equal-11 c = search needs
+slice-aggregate-equal-11 c = refl
 
 equal-requires-11 : tie.Need-equal-requires-11
-equal-requires-11 c κs = search needs
+equal-requires-11 c κs = tt
 
 slice-aggregate-equal-12 : tie.Need-slice-aggregate-equal-12
-slice-aggregate-equal-12 c = search needs
+slice-aggregate-equal-12 c = refl
 
 equal-requires-12 : tie.Need-equal-requires-12
-equal-requires-12 c κs = search needs
+equal-requires-12 c κs = tt
 
 slice-aggregate-equal-13 : tie.Need-slice-aggregate-equal-13
-slice-aggregate-equal-13 c = search needs
+slice-aggregate-equal-13 c = refl
 
 equal-requires-13 : tie.Need-equal-requires-13
-equal-requires-13 c κs = search needs
+equal-requires-13 c κs = tt
 
 slice-aggregate-equal-14 : tie.Need-slice-aggregate-equal-14
-slice-aggregate-equal-14 c = search needs
+slice-aggregate-equal-14 c = refl
 
 equal-requires-14 : tie.Need-equal-requires-14
-equal-requires-14 c κs = search needs
+equal-requires-14 c κs = tt
 
 slice-aggregate-equal-15 : tie.Need-slice-aggregate-equal-15
-slice-aggregate-equal-15 c = search needs
+slice-aggregate-equal-15 c = refl
 
 equal-requires-15 : tie.Need-equal-requires-15
-equal-requires-15 c κs = search needs
+equal-requires-15 c κs = tt
 
 slice-aggregate-equal-16 : tie.Need-slice-aggregate-equal-16
-slice-aggregate-equal-16 c = search needs
+slice-aggregate-equal-16 c = refl
 
 equal-requires-16 : tie.Need-equal-requires-16
-equal-requires-16 c κs = search needs
+equal-requires-16 c κs = tt
 
 returns : tie.Need-returns
 unfolding spelling

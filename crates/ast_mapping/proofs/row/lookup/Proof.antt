@@ -1,4 +1,6 @@
 -- `row::lookup` meets its contract: what was found so far is what the definition finds among the children passed. Assumes nothing.
+use lib.Dec.{lit<}
+use Rattle.ast_mapping.proofs.Counts.{le-as}
 use mathlib.Core.Path.{_≡_, refl, sym, ap, _∙_}
 use Prim.Native.Nat.{ℕ, suc, _-_, _+_, _*_, _≤_, _<_}
 use lib.ListN.{length}
@@ -13,7 +15,6 @@ use Rattle.ast_mapping.proofs.View.{Child, past, room, later}
 use Rattle.ast_mapping.proofs.Walk.{Passed, before-first, none-passed, hit, miss, all-passed, passing}
 use Rattle.ast_mapping.proofs.row.lookup.Statement.{statement}
 use Rattle.ast_mapping.proofs.row.lookup.Tie as tie
-use borrow.Author.Needs.{needs}
 
 abbrev Inv-loop : tie.InvT-loop
 Inv-loop text table name end next₀ found₀ next found = Passed table text (next₀ - 1) name next found
@@ -34,7 +35,7 @@ kid-room : (c : tie.In-loop Inv-loop μ-loop) → 8 * (c .before .loop .next) + 
 kid-room c = room (c .before .before .before .before .before .before .args .table .now) (c .before .before .before .before .before .before .args .text .now) (c .before .loop .next) (kid c .is)
 
 word-requires : tie.Need-word-requires Inv-loop μ-loop
-word-requires c κs = (room (c .before .before .args .table .now) (c .before .before .args .text .now) (c .before .before .args .object .0) (c .before .before .pre), omega arith)
+word-requires c κs = (room (c .before .before .args .table .now) (c .before .before .args .text .now) (c .before .before .args .object .0) (c .before .before .pre), lit< tt)
 
 add-next : tie.Need-add-next Inv-loop μ-loop
 add-next c = omega (arith, room (c .before .before .before .before .args .table .now) (c .before .before .before .before .args .text .now) (c .before .before .before .before .args .object .0) (c .before .before .before .before .pre))
@@ -43,28 +44,28 @@ loop-holds : tie.Need-loop-holds Inv-loop μ-loop
 loop-holds c = rw (before-first (c .before .before .before .before .args .object .0)) (none-passed (c .before .before .before .before .args .table .now) (c .before .before .before .before .args .text .now) (c .before .before .before .before .args .object .0) (c .before .before .before .before .pre) (c .before .before .before .before .args .name))
 
 word-requires-2 : tie.Need-word-requires-2 Inv-loop μ-loop
-word-requires-2 c κs = (kid-room (c), omega arith)
+word-requires-2 c κs = (kid-room (c), lit< tt)
 
 word-requires-3 : tie.Need-word-requires-3 Inv-loop μ-loop
-word-requires-3 c κs = (kid-room (c .before), omega arith)
+word-requires-3 c κs = (kid-room (c .before), lit< tt)
 
 sub-is-name : tie.Need-sub-is-name Inv-loop μ-loop
-sub-is-name c = omega (arith, c .before .word2 .ensures, c .word3 .ensures, kid (c .before .before) .ordered)
+sub-is-name c = le-as (c .before .word2 .ensures) (c .word3 .ensures) (kid (c .before .before) .ordered)
 
 part-is-name-start : tie.Need-part-is-name-start Inv-loop μ-loop
-part-is-name-start c = omega (arith, c .before .word2 .ensures, c .word3 .ensures, kid (c .before .before) .ordered)
+part-is-name-start c = le-as (c .before .word2 .ensures) (c .word3 .ensures) (kid (c .before .before) .ordered)
 
 part-is-name-end : tie.Need-part-is-name-end Inv-loop μ-loop
-part-is-name-end c = omega (arith, c .word3 .ensures, kid (c .before .before) .inside)
+part-is-name-end c = le-as (c .word3 .ensures) refl (kid (c .before .before) .inside)
 
 is-name-requires : tie.Need-is-name-requires Inv-loop μ-loop
-is-name-requires c κs = search needs
+is-name-requires c κs = tt
 
 replaced-requires : tie.Need-replaced-requires Inv-loop μ-loop
 replaced-requires c κs = tt
 
 word-requires-4 : tie.Need-word-requires-4 Inv-loop μ-loop
-word-requires-4 c κs = (kid-room (c .before .before .before .before .before), omega arith)
+word-requires-4 c κs = (kid-room (c .before .before .before .before .before), lit< tt)
 
 loop-less : tie.Need-loop-less Inv-loop μ-loop
 loop-less c = omega (arith, c .word4 .ensures, later (c .before .before .before .before .before .before .before .before .before .before .before .before .args .table .now) (c .before .before .before .before .before .before .before .before .before .before .before .before .args .text .now) (c .before .before .before .before .before .before .before .loop .next) (kid (c .before .before .before .before .before .before) .is), c .before .before .before .before .before .before .loop-test .taken)

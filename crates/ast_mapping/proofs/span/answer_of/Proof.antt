@@ -1,19 +1,18 @@
 -- `span::answer_of` meets its contract, case by case. Assumes nothing.
 use Rattle.ast_mapping.proofs.span.answer_of.Statement.{statement}
 use Rattle.ast_mapping.proofs.span.answer_of.Tie as tie
-use borrow.Author.Needs.{needs}
 
 enum-told : tie.Need-enum-told
-enum-told c = search needs
+enum-told c = c .match .keys1
 
 enum-told-2 : tie.Need-enum-told-2
-enum-told-2 c = search needs
+enum-told-2 c = c .match .keys2
 
 enum-told-3 : tie.Need-enum-told-3
-enum-told-3 c = search needs
+enum-told-3 c = c .match .keys3
 
 enum-known-mapped : tie.Need-enum-known-mapped
-enum-known-mapped c = search needs
+enum-known-mapped c = c .match .keys4
 
 returns : tie.Need-returns
 returns c = rw (c .enum-told .given .1)

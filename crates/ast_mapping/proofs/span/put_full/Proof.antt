@@ -1,41 +1,39 @@
 -- `span::put_full` meets its contract: the lists follow one another in the table. Assumes nothing.
-use mathlib.Core.Path.{_≡_, _∙_}
 use native.Mathlib.Omega.{arith}
-use Prim.Native.Nat.{_+_, _*_, _≤_}
+use mathlib.Core.Path.{_≡_, _∙_}
 use lib.ListN.{length, length-append}
 use Rattle.ast_mapping.specs.View.{stringsOf}
-use Rattle.ast_mapping.proofs.Spans.{put-lists}
+use Rattle.ast_mapping.proofs.Spans.{put-lists, Room, room-first, room-second, room-third, fits-first}
 use Rattle.ast_mapping.proofs.span.put_full.Statement.{statement}
 use Rattle.ast_mapping.proofs.span.put_full.Tie as tie
 
-sum : (c : tie.Start)
-    → (2 * (length (stringsOf (c .args .table .now) (c .args .headers .0)) + (length (stringsOf (c .args .table .now) (c .args .query .0)) + length (stringsOf (c .args .table .now) (c .args .list .0)))) ≤ length (c .args .spans .now))
-    × (length (stringsOf (c .args .table .now) (c .args .headers .0)) + (length (stringsOf (c .args .table .now) (c .args .query .0)) + length (stringsOf (c .args .table .now) (c .args .list .0))) ≤ 256)
-sum c = simp length-append at (c .pre .1)
+room : (c : tie.Start)
+    → Room (length (stringsOf (c .args .table .now) (c .args .headers .0))) (length (stringsOf (c .args .table .now) (c .args .query .0))) (length (stringsOf (c .args .table .now) (c .args .list .0))) (length (c .args .spans .now))
+room c = let all = simp length-append at (c .pre .1) in record { words = all .0; few = all .1 }
 
 put-list-requires : tie.Need-put-list-requires
-put-list-requires c κs = (c .before .before .before .pre .0 .0, omega (arith, sum (c .before .before .before)))
+put-list-requires c κs = (c .before .before .before .pre .0 .0, room-first (room (c .before .before .before)))
 
 put-list-requires-2 : tie.Need-put-list-requires-2
-put-list-requires-2 c κs = (c .before .before .before .before .before .before .before .pre .0 .1, omega (arith, sum (c .before .before .before .before .before .before .before), c .before .before .before .put-list .ensures .count, c .before .before .before .put-list .kept .1 .1 .0))
+put-list-requires-2 c κs = (c .before .before .before .before .before .before .before .pre .0 .1, room-second (room (c .before .before .before .before .before .before .before)) (c .before .before .before .put-list .ensures .count) (c .before .before .before .put-list .kept .1 .1 .0))
 
 put-list-requires-3 : tie.Need-put-list-requires-3
-put-list-requires-3 c κs = (c .before .before .before .before .before .before .before .before .before .before .before .pre .0 .2, omega (arith, sum (c .before .before .before .before .before .before .before .before .before .before .before), c .before .before .before .before .before .before .before .put-list .ensures .count, c .before .before .before .before .before .before .before .put-list .kept .1 .1 .0, c .before .before .before .put-list2 .ensures .count, c .before .before .before .put-list2 .kept .1 .1 .0))
+put-list-requires-3 c κs = (c .before .before .before .before .before .before .before .before .before .before .before .pre .0 .2, room-third (room (c .before .before .before .before .before .before .before .before .before .before .before)) (c .before .before .before .before .before .before .before .put-list .ensures .count) (c .before .before .before .put-list2 .ensures .count) (c .before .before .before .before .before .before .before .put-list .kept .1 .1 .0) (c .before .before .before .put-list2 .kept .1 .1 .0))
 
 cast-t16 : tie.Need-cast-t16
-cast-t16 c = omega (arith, sum (c .before .before .before .before .before .before .before .before .before .before .before .before .before .before), c .before .before .before .before .before .before .before .before .before .before .put-list .ensures .count)
+cast-t16 c = fits-first (room (c .before .before .before .before .before .before .before .before .before .before .before .before .before .before)) (c .before .before .before .before .before .before .before .before .before .before .put-list .ensures .count)
 
 sub-t17 : tie.Need-sub-t17
 sub-t17 c = omega (arith, c .before .before .before .before .before .before .put-list2 .ensures .count)
 
 cast-t18 : tie.Need-cast-t18
-cast-t18 c = omega (arith, sum (c .before .before .before .before .before .before .before .before .before .before .before .before .before .before), c .before .before .before .before .before .before .before .before .before .before .put-list .ensures .count, c .before .before .before .before .before .before .put-list2 .ensures .count)
+cast-t18 c = omega (arith, room (c .before .before .before .before .before .before .before .before .before .before .before .before .before .before) .few, c .before .before .before .before .before .before .before .before .before .before .put-list .ensures .count, c .before .before .before .before .before .before .put-list2 .ensures .count)
 
 sub-t19 : tie.Need-sub-t19
 sub-t19 c = omega (arith, c .before .before .put-list3 .ensures .count)
 
 cast-t20 : tie.Need-cast-t20
-cast-t20 c = omega (arith, sum (c .before .before .before .before .before .before .before .before .before .before .before .before .before .before), c .before .before .before .before .before .before .before .before .before .before .put-list .ensures .count, c .before .before .before .before .before .before .put-list2 .ensures .count, c .before .before .put-list3 .ensures .count)
+cast-t20 c = omega (arith, room (c .before .before .before .before .before .before .before .before .before .before .before .before .before .before) .few, c .before .before .before .before .before .before .before .before .before .before .put-list .ensures .count, c .before .before .before .before .before .before .put-list2 .ensures .count, c .before .before .put-list3 .ensures .count)
 
 same-length : tie.Need-same-length
 same-length c = c .before .before .put-list3 .kept .1 .1 .0 ∙ c .before .before .before .before .before .before .put-list2 .kept .1 .1 .0 ∙ c .before .before .before .before .before .before .before .before .before .before .put-list .kept .1 .1 .0

@@ -5,7 +5,6 @@ use lib.ListN.{length}
 use Rattle.ast_mapping.specs.View.{stringsOf}
 use Rattle.ast_mapping.proofs.span.put_response.Statement.{statement}
 use Rattle.ast_mapping.proofs.span.put_response.Tie as tie
-use borrow.Author.Needs.{needs}
 
 put-list-requires : tie.Need-put-list-requires
 put-list-requires c κs = (c .before .before .before .pre .0, omega (arith, c .before .before .before .pre .1))
@@ -14,7 +13,7 @@ cast-t8 : tie.Need-cast-t8
 cast-t8 c = omega (arith, c .before .before .put-list .ensures .count, c .before .before .before .before .before .before .pre .1)
 
 same-length : tie.Need-same-length
-same-length c = search needs
+same-length c = c .before .before .put-list .kept .1 .1 .0
 
 returns : tie.Need-returns
 returns c =

@@ -1,42 +1,43 @@
 -- `judge::judge` meets its contract: the checks in document 01's order. Assumes nothing.
 use mathlib.Core.Path.{sym, ap, _∙_}
 use native.Mathlib.Omega.{arith}
+use mir.Facts.{fits-32-64}
 use borrow.Author.Tests.{not-true, not-false}
 use Rattle.cel_text.specs.Byte.{stringByte}
 use Rattle.cel_policy.specs.Policy.{stringCount, numbers}
 use Rattle.cel_policy.specs.Answers.{spanFits, bytesFit}
 use Rattle.create_cel_expr.specs.Judged.{faultOf}
 use Rattle.create_cel_expr.proofs.Verdicts.{refused-20, refused-21, refused-22, shaped-few, all-inside, below}
-use borrow.Author.Needs.{needs}
+use Rattle.create_cel_expr.proofs.Widths.{fits-two, fits-three}
 use Rattle.create_cel_expr.proofs.judge.judge.Statement.{statement}
 use Rattle.create_cel_expr.proofs.judge.judge.Tie as tie
 
 shape-requires : tie.Need-shape-requires
-shape-requires c κs = search needs
+shape-requires c κs = tt
 
 returns : tie.Need-returns
 returns c = (refused-20 (numbers (c .before .before .before .before .args .policy)) (c .before .before .before .before .args .spans .now) (c .before .before .before .before .args .text .now) (c .before .before .before .before .args .room) (sym (c .before .shape .ensures) ∙ not-true (c .before .shape .result) (c .if1 .taken)), omega arith)
 
 cast-count : tie.Need-cast-count
-cast-count c = search needs
+cast-count c = fits-32-64 (c .struct-known .given .1 .1 .0)
 
 cast-count-2 : tie.Need-cast-count-2
-cast-count-2 c = search needs
+cast-count-2 c = fits-32-64 (c .struct-known2 .given .1 .1 .1 .0)
 
 add-count : tie.Need-add-count
-add-count c = search needs
+add-count c = fits-two (c .struct-known2 .given .1 .1 .0) (c .struct-known2 .given .1 .1 .1 .0)
 
 cast-count-3 : tie.Need-cast-count-3
-cast-count-3 c = search needs
+cast-count-3 c = fits-32-64 (c .struct-known3 .given .1 .1 .1 .1 .0)
 
 add-count-2 : tie.Need-add-count-2
-add-count-2 c = search needs
+add-count-2 c = fits-three (c .struct-known3 .given .1 .1 .0) (c .struct-known3 .given .1 .1 .1 .0) (c .struct-known3 .given .1 .1 .1 .1 .0)
 
 first-outside-requires : tie.Need-first-outside-requires
 first-outside-requires c κs = omega (arith, shaped-few (numbers (c .before .before .before .before .before .before .before .args .policy)) (sym (c .before .before .before .before .shape .ensures) ∙ not-false (c .before .before .before .before .shape .result) (c .before .before .before .if1 .left)))
 
 enum-known-outside : tie.Need-enum-known-outside
-enum-known-outside c = search needs
+enum-known-outside c = c .match .keys1
 
 returns-2 : tie.Need-returns-2
 returns-2 c =
@@ -45,13 +46,13 @@ returns-2 c =
     (refused-21 (numbers (c .before .before .before .before .before .before .before .before .before .before .before .args .policy)) (c .before .before .before .before .before .before .before .before .before .before .before .args .spans .now) (c .before .before .before .before .before .before .before .before .before .before .before .args .text .now) (c .before .before .before .before .before .before .before .before .before .before .before .args .room) ok _ fault, below (spanFits (c .before .before .before .before .before .before .before .before .before .before .before .args .spans .now) (c .before .before .before .before .before .before .before .before .before .before .before .args .text .now)) (shaped-few (numbers (c .before .before .before .before .before .before .before .before .before .before .before .args .policy)) ok) fault)
 
 enum-told : tie.Need-enum-told
-enum-told c = search needs
+enum-told c = c .match .keys2
 
 first-odd-requires : tie.Need-first-odd-requires
 first-odd-requires c κs = all-inside (c .before .before .before .before .before .before .before .before .before .before .args .spans .now) (c .before .before .before .before .before .before .before .before .before .before .args .text .now) (stringCount (numbers (c .before .before .before .before .before .before .before .before .before .before .args .policy))) (sym (c .before .before .first-outside .ensures) ∙ ap faultOf (c .enum-told .given .1))
 
 enum-known-odd : tie.Need-enum-known-odd
-enum-known-odd c = search needs
+enum-known-odd c = c .match2 .keys1
 
 returns-3 : tie.Need-returns-3
 returns-3 c =
@@ -60,7 +61,7 @@ returns-3 c =
     (refused-22 (numbers (c .before .before .before .before .before .before .before .before .before .before .before .before .before .before .args .policy)) (c .before .before .before .before .before .before .before .before .before .before .before .before .before .before .args .spans .now) (c .before .before .before .before .before .before .before .before .before .before .before .before .before .before .args .text .now) (c .before .before .before .before .before .before .before .before .before .before .before .before .before .before .args .room) ok (sym (c .before .before .before .before .before .before .first-outside .ensures) ∙ ap faultOf (c .before .before .before .before .enum-told .given .1)) _ fault, below (bytesFit stringByte (c .before .before .before .before .before .before .before .before .before .before .before .before .before .before .args .spans .now) (c .before .before .before .before .before .before .before .before .before .before .before .before .before .before .args .text .now)) (shaped-few (numbers (c .before .before .before .before .before .before .before .before .before .before .before .before .before .before .args .policy)) ok) fault)
 
 enum-told-2 : tie.Need-enum-told-2
-enum-told-2 c = search needs
+enum-told-2 c = c .match2 .keys2
 
 fit-requires : tie.Need-fit-requires
 fit-requires c κs = record { shape = sym (c .before .before .before .before .before .before .before .before .before .before .shape .ensures) ∙ not-false (c .before .before .before .before .before .before .before .before .before .before .shape .result) (c .before .before .before .before .before .before .before .before .before .if1 .left); inside = sym (c .before .before .before .before .before .first-outside .ensures) ∙ ap faultOf (c .before .before .before .enum-told .given .1); plain = sym (c .before .before .first-odd .ensures) ∙ ap faultOf (c .enum-told2 .given .1) }

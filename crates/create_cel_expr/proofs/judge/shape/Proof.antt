@@ -1,24 +1,25 @@
 -- `judge::shape` meets its contract: each return is one way through `shaped`. Assumes nothing.
+use mir.Facts.{fits-32-64}
 use Rattle.cel_policy.specs.Policy.{numbers}
 use Rattle.create_cel_expr.proofs.Shapes.{kind-none, kind-odd, kind-some, skip-kind, skip-count, other-kind, response-request, response-count, no-form, full-count}
-use borrow.Author.Needs.{needs}
+use Rattle.create_cel_expr.proofs.Widths.{fits-two, fits-three}
 use Rattle.create_cel_expr.proofs.judge.shape.Statement.{statement}
 use Rattle.create_cel_expr.proofs.judge.shape.Tie as tie
 
 cast-request : tie.Need-cast-request
-cast-request c = search needs
+cast-request c = fits-32-64 (c .struct-known .given .1 .1 .0)
 
 cast-query : tie.Need-cast-query
-cast-query c = search needs
+cast-query c = fits-32-64 (c .struct-known2 .given .1 .1 .1 .0)
 
 add-total : tie.Need-add-total
-add-total c = search needs
+add-total c = fits-two (c .struct-known2 .given .1 .1 .0) (c .struct-known2 .given .1 .1 .1 .0)
 
 cast-total : tie.Need-cast-total
-cast-total c = search needs
+cast-total c = fits-32-64 (c .struct-known3 .given .1 .1 .1 .1 .0)
 
 add-total-2 : tie.Need-add-total-2
-add-total-2 c = search needs
+add-total-2 c = fits-three (c .struct-known3 .given .1 .1 .0) (c .struct-known3 .given .1 .1 .1 .0) (c .struct-known3 .given .1 .1 .1 .1 .0)
 
 returns : tie.Need-returns
 returns c = skip-kind (numbers (c .before .before .before .before .before .args .policy)) (c .before .if1 .taken) (c .if2 .taken)
@@ -33,7 +34,7 @@ returns-4 : tie.Need-returns-4
 returns-4 c = other-kind (numbers (c .before .before .before .before .before .before .args .policy)) (c .before .before .if1 .left) (kind-odd (c .before .before .before .before .before .before .args .policy .kind) (c .if4 .taken))
 
 add-if6 : tie.Need-add-if6
-add-if6 c = search needs
+add-if6 c = fits-two (c .before .before .before .before .struct-known3 .given .1 .1 .0) (c .before .before .before .before .struct-known3 .given .1 .1 .1 .0)
 
 returns-5 : tie.Need-returns-5
 returns-5 c = response-request (numbers (c .before .before .before .before .before .before .before .before .args .policy)) (c .before .if5 .taken) (kind-some (c .before .before .before .before .before .before .before .before .args .policy .kind) (c .before .before .before .if3 .left) (c .before .before .if4 .left)) (c .if6 .taken)

@@ -1,7 +1,7 @@
 -- `write::list` meets its contract: at each turn what is still to be written makes the buffer what it must be in the end. Assumes nothing.
-use mathlib.Core.Path.{_≡_, _∙_, subst}
+use mathlib.Core.Path.{_≡_, refl, _∙_, subst}
 use Prim.Native.Nat.{_+_, _-_, _≤_}
-use native.Mathlib.Nat.{add-zero}
+use native.Mathlib.Nat.{add-zero, le-refl}
 use lib.ListN.{length}
 use native.Mathlib.Omega.{arith}
 use Rattle.create_cel_expr.specs.Over.{over}
@@ -10,7 +10,7 @@ use Rattle.create_cel_expr.proofs.Pieces.{Remains, wrote-none}
 use Rattle.create_cel_expr.proofs.Lists.{restOf, list-none, first-room, first-then, next-room, next-then, last-room, last-then}
 use Rattle.create_cel_expr.proofs.write.list.Statement.{statement}
 use Rattle.create_cel_expr.proofs.write.list.Tie as tie
-use borrow.Author.Needs.{needs}
+use Rattle.create_cel_expr.proofs.Widths.{fits-next, turn-within, turn-less, turn-begun, some}
 
 abbrev Inv-loop : tie.InvT-loop
 Inv-loop out₀ at text spans begin count past₀ i₀ out past i = (1 ≤ i) × (i ≤ count) × (length out ≡ length out₀) × Remains out past (restOf text spans begin count i) (over out₀ past₀ (restOf text spans begin count 1)) (past₀ + length (restOf text spans begin count 1))
@@ -29,7 +29,7 @@ first-requires c κs = (
 
 loop-holds : tie.Need-loop-holds Inv-loop μ-loop
 loop-holds c =
-    (omega arith, omega arith, search needs, first-then (c .before .before .before .before .before .before .before .before .args .text .now) (c .before .before .before .before .before .before .before .before .args .spans .now) (c .before .before .before .before .before .before .before .before .args .begin) (c .before .before .before .before .before .before .before .before .args .count) (c .before .before .before .before .if1 .left) (c .before .before .before .before .before .before .before .before .pre .1) (c .before .before .first .ensures))
+    (le-refl 1, some (c .before .before .before .before .if1 .left), refl, first-then (c .before .before .before .before .before .before .before .before .args .text .now) (c .before .before .before .before .before .before .before .before .args .spans .now) (c .before .before .before .before .before .before .before .before .args .begin) (c .before .before .before .before .before .before .before .before .args .count) (c .before .before .before .before .if1 .left) (c .before .before .before .before .before .before .before .before .pre .1) (c .before .before .first .ensures))
 
 add-next : tie.Need-add-next Inv-loop μ-loop
 add-next c = record { fits = omega (arith, c .before .before .before .before .before .before .before .before .before .before .before .pre .0 (c .before .before .loop .i) (c .before .loop-test .taken) .inTable) }
@@ -41,16 +41,16 @@ next-requires c κs = (
 )
 
 add-i : tie.Need-add-i Inv-loop μ-loop
-add-i c = search needs
+add-i c = fits-next (c .before .before .before .before .loop-test .taken) (c .before .before .before .before .before .before .before .before .before .before .before .before .before .before .fits .count)
 
 loop-less : tie.Need-loop-less Inv-loop μ-loop
-loop-less c = search needs
+loop-less c = turn-less (c .before .before .before .before .loop-test .taken)
 
 loop-again : tie.Need-loop-again Inv-loop μ-loop
 loop-again c = (
-  omega arith,
-  omega arith,
-  search needs,
+  turn-begun (c .before .before .before .before .before .loop .inv .0),
+  turn-within (c .before .before .before .before .loop-test .taken),
+  c .before .before .next .kept .0 ∙ c .before .before .before .before .before .loop .inv .2,
   next-then (c .before .before .before .before .before .before .before .before .before .before .before .before .before .before .args .text .now) (c .before .before .before .before .before .before .before .before .before .before .before .before .before .before .args .spans .now) (c .before .before .before .before .before .before .before .before .before .before .before .before .before .before .args .begin) (c .before .before .before .before .before .before .before .before .before .before .before .before .before .before .args .count) (c .before .before .before .before .before .loop .i) (c .before .before .before .before .loop-test .taken) (c .before .before .before .before .before .loop .inv .3) (c .before .before .next .ensures),
 )
 
@@ -58,7 +58,7 @@ last-requires : tie.Need-last-requires Inv-loop μ-loop
 last-requires c κs = last-room (c .before .before .before .before .before .before .before .before .before .before .before .args .text .now) (c .before .before .before .before .before .before .before .before .before .before .before .args .spans .now) (c .before .before .before .before .before .before .before .before .before .before .before .args .begin) (c .before .before .before .before .before .before .before .before .before .before .before .args .count) (c .before .before .loop .i) (c .before .loop-test .left) (c .before .before .loop .inv .3)
 
 same-length : tie.Need-same-length Inv-loop μ-loop
-same-length c = search needs
+same-length c = c .before .before .last .kept .0 ∙ c .before .before .before .before .before .loop .inv .2 ∙ c .before .before .before .before .before .before .before .before .first .kept .0
 
 returns-2 : tie.Need-returns-2 Inv-loop μ-loop
 returns-2 c =

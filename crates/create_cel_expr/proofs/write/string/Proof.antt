@@ -12,10 +12,10 @@ use Rattle.create_cel_expr.proofs.write.string.Statement.{statement}
 use Rattle.create_cel_expr.proofs.write.string.Tie as tie
 
 from-requires : tie.Need-from-requires
-from-requires c κs = search needs
+from-requires c κs = c .before .before .before .pre .0 .inTable
 
 to-requires : tie.Need-to-requires
-to-requires c κs = search needs
+to-requires c κs = c .before .before .before .before .pre .0 .inTable
 
 sub-put : tie.Need-sub-put
 sub-put c = search needs
@@ -33,7 +33,7 @@ put-requires c κs =
     subst (fits (s .args .out .now) (s .args .at)) (sym piece) (s .pre .1)
 
 same-length : tie.Need-same-length
-same-length c = search needs
+same-length c = c .before .before .put .kept .0
 
 returns : tie.Need-returns
 returns c =
