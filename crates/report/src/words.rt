@@ -1,31 +1,43 @@
-// Names and kinds as they are written.
+// Names and kinds as they are written. Words of one sort stand in a line, with a bar before each, in the order of their numbers; what
+// has no number there is nothing.
+ghost use Prim.Native.Nat.{_≤_};
+ghost use lib.ListN.{length};
 ghost use Rattle.page.specs.Shown.{Shown};
-use ast_mapping::name;
-use page::put;
+
+// Where the word with this number starts, or the line's end.
+fn start(line: &[u8], number: u32) -> usize
+    ensures { λ r. ⌜ r ≤ length (now (line .entry)) ⌝ }
+{
+    let mut at = 0;
+    let mut i = 0;
+    while i < number {
+        let bar = bytes::scan::find(line, at, line.len(), b'|');
+        if bar == line.len() {
+            return bar;
+        }
+        at = bar + 1;
+        i += 1;
+    }
+    at
+}
+
+// The word with this number.
+fn put_word(out: &mut [u8], at: usize, line: &[u8], number: u32) -> usize
+    requires { ⌜ Shown (now out) at ⌝ }
+    ensures { λ r. ⌜ Shown (now (out .exit)) r ⌝ }
+{
+    let from = start(line, number);
+    let to = bytes::scan::find(line, from, line.len(), b'|');
+    page::put_part(out, at, line, from, to)
+}
 
 pub(crate) fn put_name(out: &mut [u8], at: usize, name: u32) -> usize
     requires { ⌜ Shown (now out) at ⌝ }
     ensures { λ r. ⌜ Shown (now (out .exit)) r ⌝ }
 {
-    match name {
-        name::DEFAULT_CERTIFICATION => put(out, at, b"default_certification"),
-        name::VALIDATION_ARGS => put(out, at, b"ValidationArgs"),
-        name::NO_CERTIFICATION => put(out, at, b"no_certification"),
-        name::CERTIFICATION => put(out, at, b"certification"),
-        name::CERTIFICATION_OBJECT => put(out, at, b"Certification"),
-        name::NO_REQUEST_CERTIFICATION => put(out, at, b"no_request_certification"),
-        name::REQUEST_CERTIFICATION => put(out, at, b"request_certification"),
-        name::REQUEST_CERTIFICATION_OBJECT => put(out, at, b"RequestCertification"),
-        name::CERTIFIED_REQUEST_HEADERS => put(out, at, b"certified_request_headers"),
-        name::CERTIFIED_QUERY_PARAMETERS => put(out, at, b"certified_query_parameters"),
-        name::RESPONSE_CERTIFICATION => put(out, at, b"response_certification"),
-        name::RESPONSE_CERTIFICATION_OBJECT => put(out, at, b"ResponseCertification"),
-        name::CERTIFIED_RESPONSE_HEADERS => put(out, at, b"certified_response_headers"),
-        name::RESPONSE_HEADER_EXCLUSIONS => put(out, at, b"response_header_exclusions"),
-        name::RESPONSE_HEADER_LIST => put(out, at, b"ResponseHeaderList"),
-        name::HEADERS => put(out, at, b"headers"),
-        _ => at,
-    }
+    let names =
+        b"|default_certification|ValidationArgs|no_certification|certification|Certification|no_request_certification|request_certification|RequestCertification|certified_request_headers|certified_query_parameters|response_certification|ResponseCertification|certified_response_headers|response_header_exclusions|ResponseHeaderList|headers";
+    put_word(out, at, names, name)
 }
 
 // What a node is.
@@ -33,12 +45,7 @@ pub(crate) fn put_found(out: &mut [u8], at: usize, kind: u32) -> usize
     requires { ⌜ Shown (now out) at ⌝ }
     ensures { λ r. ⌜ Shown (now (out .exit)) r ⌝ }
 {
-    match kind {
-        parser::STRING => put(out, at, b"a string"),
-        parser::ARRAY => put(out, at, b"an array"),
-        parser::OBJECT => put(out, at, b"an object"),
-        _ => put(out, at, b"a function"),
-    }
+    put_word(out, at, b"|a string|an array|an object|a function", kind)
 }
 
 // What a node should be, up to the name.
@@ -46,10 +53,7 @@ pub(crate) fn put_expected(out: &mut [u8], at: usize, kind: u32) -> usize
     requires { ⌜ Shown (now out) at ⌝ }
     ensures { λ r. ⌜ Shown (now (out .exit)) r ⌝ }
 {
-    match kind {
-        parser::STRING => put(out, at, b"Expected a string in the array for "),
-        parser::ARRAY => put(out, at, b"Expected an array of strings for "),
-        parser::OBJECT => put(out, at, b"Expected the object "),
-        _ => put(out, at, b"Expected the function "),
-    }
+    let expected =
+        b"|Expected a string in the array for |Expected an array of strings for |Expected the object |Expected the function ";
+    put_word(out, at, expected, kind)
 }
