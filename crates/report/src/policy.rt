@@ -87,48 +87,15 @@ fn put_count(out: &mut [u8], at: usize, count: usize) -> usize
     put_line(out, end, b"):")
 }
 
-fn put_request_title(out: &mut [u8], at: usize, count: usize) -> usize
+// A list's title, by whether it has strings.
+fn put_title(out: &mut [u8], at: usize, count: usize, none: &[u8], some: &[u8]) -> usize
     requires { ⌜ Shown (now out) at ⌝ }
     ensures { λ r. ⌜ Shown (now (out .exit)) r ⌝ }
 {
     if count == 0 {
-        return put_line(
-            out,
-            at,
-            b"    Certified request headers: none, the list is empty.",
-        );
+        return put_line(out, at, none);
     }
-    let end = put(out, at, b"    Certified request headers");
-    put_count(out, end, count)
-}
-
-fn put_query_title(out: &mut [u8], at: usize, count: usize) -> usize
-    requires { ⌜ Shown (now out) at ⌝ }
-    ensures { λ r. ⌜ Shown (now (out .exit)) r ⌝ }
-{
-    if count == 0 {
-        return put_line(
-            out,
-            at,
-            b"    Certified query parameters: none, the list is empty.",
-        );
-    }
-    let end = put(out, at, b"    Certified query parameters");
-    put_count(out, end, count)
-}
-
-fn put_inclusions_title(out: &mut [u8], at: usize, count: usize) -> usize
-    requires { ⌜ Shown (now out) at ⌝ }
-    ensures { λ r. ⌜ Shown (now (out .exit)) r ⌝ }
-{
-    if count == 0 {
-        return put_line(
-            out,
-            at,
-            b"    Certified response headers: none, the list is empty.",
-        );
-    }
-    let end = put(out, at, b"    Certified response headers: only these");
+    let end = put(out, at, some);
     put_count(out, end, count)
 }
 
@@ -136,18 +103,36 @@ fn put_response_title(out: &mut [u8], at: usize, kind: u32, count: usize) -> usi
     requires { ⌜ Shown (now out) at ⌝ }
     ensures { λ r. ⌜ Shown (now (out .exit)) r ⌝ }
 {
-    if kind != cel_policy::EXCLUSIONS {
-        return put_inclusions_title(out, at, count);
-    }
-    if count == 0 {
-        return put_line(
+    if kind == cel_policy::EXCLUSIONS {
+        return put_title(
             out,
             at,
+            count,
             b"    Certified response headers: all, the list of exclusions is empty.",
+            b"    Certified response headers: all except these",
         );
     }
-    let end = put(out, at, b"    Certified response headers: all except these");
-    put_count(out, end, count)
+    put_title(
+        out,
+        at,
+        count,
+        b"    Certified response headers: none, the list is empty.",
+        b"    Certified response headers: only these",
+    )
+}
+
+fn put_request_headers(out: &mut [u8], at: usize, text: &[u8], spans: &[u32], count: usize) -> usize
+    requires { ⌜ Shown (now out) at ⌝ }
+    ensures { λ r. ⌜ Shown (now (out .exit)) r ⌝ }
+{
+    let end = put_title(
+        out,
+        at,
+        count,
+        b"    Certified request headers: none, the list is empty.",
+        b"    Certified request headers",
+    );
+    put_strings(out, end, text, spans, 0, count)
 }
 
 // The lists of the request, which only Full has.
@@ -160,9 +145,14 @@ fn put_request(out: &mut [u8], at: usize, policy: Policy, text: &[u8], spans: &[
     if policy.form != cel_policy::FULL {
         return at;
     }
-    let end = put_request_title(out, at, request);
-    let end = put_strings(out, end, text, spans, 0, request);
-    let end = put_query_title(out, end, query);
+    let end = put_request_headers(out, at, text, spans, request);
+    let end = put_title(
+        out,
+        end,
+        query,
+        b"    Certified query parameters: none, the list is empty.",
+        b"    Certified query parameters",
+    );
     put_strings(out, end, text, spans, request, request + query)
 }
 
@@ -193,7 +183,29 @@ fn put_size(out: &mut [u8], at: usize, answer: Answer) -> usize
     put(out, end, b". ")
 }
 
-// The canonical text, or that there is none. It is not cut: it stands on the last line, to be copied from there.
+fn put_unprintable(out: &mut [u8], at: usize, refusal: u32) -> usize
+    requires { ⌜ Shown (now out) at ⌝ }
+    ensures { λ r. ⌜ Shown (now (out .exit)) r ⌝ }
+{
+    let end = put(out, at, b"No canonical text (");
+    let end = put_number(out, end, refusal as usize);
+    put_line(out, end, b"): it would have more than 8192 bytes.")
+}
+
+// The canonical text is not cut: it stands on the last line, to be copied from there.
+fn put_printed(out: &mut [u8], at: usize, printed: &[u8], length: usize) -> usize
+    requires { ⌜ Shown (now out) at ⌝ }
+    ensures { λ r. ⌜ Shown (now (out .exit)) r ⌝ }
+{
+    let end = put(out, at, b"Canonical text, ");
+    let end = put_number(out, end, length);
+    let end = put_line(out, end, b" bytes:");
+    let end = page::end_line(out, end);
+    let end = page::put_part(out, end, printed, 0, length);
+    page::end_line(out, end)
+}
+
+// The canonical text, or that there is none.
 fn put_canonical(out: &mut [u8], at: usize, policy: Policy, text: &[u8], spans: &[u32]) -> usize
     requires { ⌜ Shown (now out) at ⌝ }
     ensures { λ r. ⌜ Shown (now (out .exit)) r ⌝ }
@@ -201,17 +213,9 @@ fn put_canonical(out: &mut [u8], at: usize, policy: Policy, text: &[u8], spans: 
     let mut printed = [0u8; 8192];
     let print = create_cel_expr::print_policy(policy, text, spans, &mut printed);
     if print.refusal != 0 {
-        let end = put(out, at, b"No canonical text (");
-        let end = put_number(out, end, print.refusal as usize);
-        return put_line(out, end, b"): it would have more than 8192 bytes.");
+        return put_unprintable(out, at, print.refusal);
     }
-    let length = print.length as usize;
-    let end = put(out, at, b"Canonical text, ");
-    let end = put_number(out, end, length);
-    let end = put_line(out, end, b" bytes:");
-    let end = page::end_line(out, end);
-    let end = page::put_part(out, end, &printed, 0, length);
-    page::end_line(out, end)
+    put_printed(out, at, &printed, print.length as usize)
 }
 
 pub(crate) fn put_policy(

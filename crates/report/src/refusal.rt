@@ -4,6 +4,7 @@ use crate::node;
 use crate::window;
 use crate::words::put_expected;
 use crate::words::put_found;
+use crate::words::put_message;
 use crate::words::put_name;
 use ast_mapping::name;
 use page::put;
@@ -29,73 +30,33 @@ fn put_head(out: &mut [u8], at: usize, refusal: u32) -> usize
     put(out, end, b"): ")
 }
 
-// Two pieces around a place.
-fn put_around(out: &mut [u8], at: usize, first: &[u8], place: Place, last: &[u8]) -> usize
-    requires { ⌜ Shown (now out) at ⌝ }
-    ensures { λ r. ⌜ Shown (now (out .exit)) r ⌝ }
-{
-    let end = put(out, at, first);
-    let end = put_number(out, end, place.0);
-    put_line(out, end, last)
-}
-
 fn put_syntax(out: &mut [u8], at: usize, text: &[u8], place: Place) -> usize
     requires { ⌜ Shown (now out) at ⌝ }
     ensures { λ r. ⌜ Shown (now (out .exit)) r ⌝ }
 {
     let i = place.0;
+    let messages =
+        b"|syntax. The text ends at byte #, where more must follow.|syntax. Byte 0 cannot begin an expression.|syntax. Byte # cannot follow what stands before it.";
     if i == text.len() {
-        return put_around(
-            out,
-            at,
-            b"syntax. The text ends at byte ",
-            place,
-            b", where more must follow.",
-        );
+        return put_message(out, at, messages, 1, i);
     }
     if i == 0 {
-        return put_line(out, at, b"syntax. Byte 0 cannot begin an expression.");
+        return put_message(out, at, messages, 2, i);
     }
-    put_around(
-        out,
-        at,
-        b"syntax. Byte ",
-        place,
-        b" cannot follow what stands before it.",
-    )
+    put_message(out, at, messages, 3, i)
 }
 
-// What refusals 2 to 6 mean.
+// What refusals 1 to 6 mean.
 fn put_reading(out: &mut [u8], at: usize, refusal: u32, text: &[u8], place: Place) -> usize
     requires { ⌜ Shown (now out) at ⌝ }
     ensures { λ r. ⌜ Shown (now (out .exit)) r ⌝ }
 {
-    match refusal {
-        parser::TEXT_TOO_LONG => put_around(
-            out,
-            at,
-            b"too long. At most ",
-            place,
-            b" bytes are allowed; what follows is not read.",
-        ),
-        parser::NOT_ASCII => put_around(out, at, b"not ASCII. Byte ", place, b" is 128 or more."),
-        parser::SYNTAX => put_syntax(out, at, text, place),
-        parser::TOO_DEEP => put_around(
-            out,
-            at,
-            b"too deep. Byte ",
-            place,
-            b" opens a container at depth 33; at most 32 is allowed.",
-        ),
-        parser::TOO_MANY => put_around(
-            out,
-            at,
-            b"too many values. Byte ",
-            place,
-            b" opens value 257; at most 256 are allowed.",
-        ),
-        _ => put_line(out, at, b"a table that was lent is too short."),
+    if refusal == parser::SYNTAX {
+        return put_syntax(out, at, text, place);
     }
+    let messages =
+        b"|a table that was lent is too short.|too long. At most # bytes are allowed; what follows is not read.|not ASCII. Byte # is 128 or more.||too deep. Byte # opens a container at depth 33; at most 32 is allowed.|too many values. Byte # opens value 257; at most 256 are allowed.";
+    put_message(out, at, messages, refusal, place.0)
 }
 
 // What is expected instead.

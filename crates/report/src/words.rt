@@ -1,10 +1,10 @@
-// Names and kinds as they are written. Words of one sort stand in a line, with a bar before each, in the order of their numbers; what
-// has no number there is nothing.
+// Names, kinds and messages as they are written. Those of one sort stand in a line, with a bar before each, in the order of their
+// numbers; what has no number there is nothing.
 ghost use Prim.Native.Nat.{_≤_};
 ghost use lib.ListN.{length};
 ghost use Rattle.page.specs.Shown.{Shown};
 
-// Where the word with this number starts, or the line's end.
+// Where what has this number starts, or the line's end.
 fn start(line: &[u8], number: u32) -> usize
     ensures { λ r. ⌜ r ≤ length (now (line .entry)) ⌝ }
 {
@@ -21,7 +21,7 @@ fn start(line: &[u8], number: u32) -> usize
     at
 }
 
-// The word with this number.
+// What has this number.
 fn put_word(out: &mut [u8], at: usize, line: &[u8], number: u32) -> usize
     requires { ⌜ Shown (now out) at ⌝ }
     ensures { λ r. ⌜ Shown (now (out .exit)) r ⌝ }
@@ -29,6 +29,23 @@ fn put_word(out: &mut [u8], at: usize, line: &[u8], number: u32) -> usize
     let from = start(line, number);
     let to = bytes::scan::find(line, from, line.len(), b'|');
     page::put_part(out, at, line, from, to)
+}
+
+// The message with this number, with a number in place of its `#`, on a line.
+pub(crate) fn put_message(out: &mut [u8], at: usize, line: &[u8], number: u32, n: usize) -> usize
+    requires { ⌜ Shown (now out) at ⌝ }
+    ensures { λ r. ⌜ Shown (now (out .exit)) r ⌝ }
+{
+    let from = start(line, number);
+    let to = bytes::scan::find(line, from, line.len(), b'|');
+    let mark = bytes::scan::find(line, from, to, b'#');
+    let end = page::put_part(out, at, line, from, mark);
+    if mark == to {
+        return page::end_line(out, end);
+    }
+    let end = page::put_number(out, end, n);
+    let end = page::put_part(out, end, line, mark + 1, to);
+    page::end_line(out, end)
 }
 
 pub(crate) fn put_name(out: &mut [u8], at: usize, name: u32) -> usize
