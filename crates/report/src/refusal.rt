@@ -14,13 +14,6 @@ use parser::Answer;
 use parser::Node;
 use parser::Place;
 
-// Two properties of which an object, by its name, has to have one.
-struct Pair {
-    first: u32,
-    second: u32,
-    object: u32,
-}
-
 fn put_head(out: &mut [u8], at: usize, refusal: u32) -> usize
     requires { ⌜ Shown (now out) at ⌝ }
     ensures { λ r. ⌜ Shown (now (out .exit)) r ⌝ }
@@ -125,72 +118,26 @@ fn put_no_property(out: &mut [u8], at: usize, name: u32) -> usize
     put_line(out, end, b".")
 }
 
-// The pair of names that refusals 11 to 16 are about.
-fn pair_of(refusal: u32) -> Pair {
+// The object that must have exactly one of two properties, where it has both or neither.
+fn chooser(refusal: u32) -> u32 {
     match refusal {
-        11..=12 => Pair {
-            first: name::NO_CERTIFICATION,
-            second: name::CERTIFICATION,
-            object: name::VALIDATION_ARGS,
-        },
-        13..=14 => Pair {
-            first: name::NO_REQUEST_CERTIFICATION,
-            second: name::REQUEST_CERTIFICATION,
-            object: name::CERTIFICATION_OBJECT,
-        },
-        _ => Pair {
-            first: name::CERTIFIED_RESPONSE_HEADERS,
-            second: name::RESPONSE_HEADER_EXCLUSIONS,
-            object: name::RESPONSE_CERTIFICATION_OBJECT,
-        },
+        11..=12 => name::VALIDATION_ARGS,
+        13..=14 => name::CERTIFICATION_OBJECT,
+        _ => name::RESPONSE_CERTIFICATION_OBJECT,
     }
 }
 
-// Both names, with what is said of the two.
-fn put_both(out: &mut [u8], at: usize, pair: Pair, said: &[u8]) -> usize
-    requires { ⌜ Shown (now out) at ⌝ }
-    ensures { λ r. ⌜ Shown (now (out .exit)) r ⌝ }
-{
-    let end = put(out, at, b"both ");
-    let end = put_name(out, end, pair.first);
-    let end = put(out, end, b" and ");
-    let end = put_name(out, end, pair.second);
-    put_line(out, end, said)
-}
-
-// Neither name, with what is said of each.
-fn put_neither(out: &mut [u8], at: usize, pair: Pair, said: &[u8]) -> usize
-    requires { ⌜ Shown (now out) at ⌝ }
-    ensures { λ r. ⌜ Shown (now (out .exit)) r ⌝ }
-{
-    let end = put(out, at, b"neither ");
-    let end = put_name(out, end, pair.first);
-    let end = put(out, end, b" nor ");
-    let end = put_name(out, end, pair.second);
-    put_line(out, end, said)
-}
-
-// What is wrong with a pair. A list object without headers counts as absent, so of the lists the headers are spoken of.
-fn put_pair(out: &mut [u8], at: usize, pair: Pair, refusal: u32) -> usize
-    requires { ⌜ Shown (now out) at ⌝ }
-    ensures { λ r. ⌜ Shown (now (out .exit)) r ⌝ }
-{
-    match refusal {
-        11 | 13 => put_both(out, at, pair, b" are given."),
-        12 | 14 => put_neither(out, at, pair, b" is given."),
-        15 => put_both(out, at, pair, b" give headers."),
-        _ => put_neither(out, at, pair, b" gives headers."),
-    }
-}
-
+// What is wrong with two properties: refusals 11 to 16. A list object without headers counts as absent, so of the lists the headers are
+// spoken of.
 fn put_choice(out: &mut [u8], at: usize, refusal: u32) -> usize
     requires { ⌜ Shown (now out) at ⌝ }
     ensures { λ r. ⌜ Shown (now (out .exit)) r ⌝ }
 {
-    let pair = pair_of(refusal);
-    let end = put_pair(out, at, pair, refusal);
+    let messages =
+        b"|both no_certification and certification are given.|neither no_certification nor certification is given.|both no_request_certification and request_certification are given.|neither no_request_certification nor request_certification is given.|both certified_response_headers and response_header_exclusions give headers.|neither certified_response_headers nor response_header_exclusions gives headers.";
+    let end = put_message(out, at, messages, refusal % 10, 0);
     let end = put(out, end, b"Expected exactly one of them in ");
-    let end = put_name(out, end, pair.object);
+    let end = put_name(out, end, chooser(refusal));
     put_line(out, end, b".")
 }
 
