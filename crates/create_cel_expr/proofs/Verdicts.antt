@@ -17,6 +17,7 @@ use Rattle.cel_policy.specs.Spans.{spanAt}
 use Rattle.cel_policy.specs.Printed.{printed, shaped, printedLength, listLength, total, aKind}
 use Rattle.cel_policy.specs.Answers.{placed, findPrint, sized, firstFault, spanFits, bytesFit, written, unprinted, PrintAnswer, printAnswer, printOutput}
 use Rattle.cel_policy.specs.Laws.Lengths.{length-printed}
+use Rattle.cel_policy.specs.Laws.Entries.{sized-fits}
 use Rattle.create_cel_expr.specs.Given.{Inside, AllInside, listed}
 use Rattle.create_cel_expr.specs.Over.{Wrote}
 use Rattle.create_cel_expr.specs.Judged.{Faultless, Prints}
@@ -50,10 +51,6 @@ sized-23 t room h = rw (lt-ltb 8192 (length t) h)
 pub sized-24 : (t : Text) (room : ℕ) → length t ≤ 8192 → room < length t → sized t room ≡ unprinted 24 0
 unfolding sized
 sized-24 t room h r = rw (le-ltb 8192 (length t) h, lt-ltb room (length t) r)
-
-pub sized-fits : (t : Text) (room : ℕ) → length t ≤ 8192 → length t ≤ room → sized t room ≡ written t
-unfolding sized
-sized-fits t room h r = rw (le-ltb 8192 (length t) h, le-ltb room (length t) r)
 
 -- a right shape has few strings
 choose : {P : Type 0} (a c x y z : Bool) → cond a x (cond c y z) ≡ true → (x ≡ true → P) → (y ≡ true → P) → (z ≡ true → P) → P
