@@ -12,7 +12,7 @@ extern "C" {
     fn hilladok_canonicalise(text: *const u8, length: usize, out: *mut u8, room: usize) -> u32;
 }
 
-const ROUNDS: usize = 41;
+const ROUNDS: usize = 401;
 const NANOSECONDS_A_ROUND: u128 = 2_000_000;
 const REFUSED: u32 = 65_536;
 
@@ -57,23 +57,31 @@ fn levels(count: usize) -> String {
     )
 }
 
-/// Nanoseconds of one call, the least of many rounds.
-fn time(mut call: impl FnMut()) -> f64 {
+/// How many calls take about a round's time.
+fn calls_a_round(call: &mut dyn FnMut()) -> usize {
     let mut calls = 1;
     loop {
         let start = Instant::now();
         (0..calls).for_each(|_| call());
         if start.elapsed().as_nanos() * 10 > NANOSECONDS_A_ROUND || calls > 1 << 20 {
-            break;
+            return calls;
         }
         calls *= 2;
     }
-    let round = |call: &mut dyn FnMut()| {
+}
+
+/// Nanoseconds of one call, of each of the two, the least of many rounds. The rounds are made in turns, so that both meet the
+/// machine's quiet moments.
+fn least(first: &mut dyn FnMut(), second: &mut dyn FnMut()) -> (f64, f64) {
+    let calls = (calls_a_round(first), calls_a_round(second));
+    let round = |call: &mut dyn FnMut(), calls: usize| {
         let start = Instant::now();
         (0..calls).for_each(|_| call());
         start.elapsed().as_nanos() as f64 / calls as f64
     };
-    (0..ROUNDS).map(|_| round(&mut call)).fold(f64::INFINITY, f64::min)
+    (0..ROUNDS).fold((f64::INFINITY, f64::INFINITY), |least, _| {
+        (least.0.min(round(first, calls.0)), least.1.min(round(second, calls.1)))
+    })
 }
 
 fn compare(name: &str, texts: &[String]) {
@@ -84,14 +92,15 @@ fn compare(name: &str, texts: &[String]) {
         assert!(length < REFUSED, "{name} is refused: {length}");
         assert_eq!(&out[..length as usize], expected.as_bytes(), "{name} prints otherwise");
     }
-    let per = texts.len() as f64;
-    let rust = time(|| texts.iter().for_each(|text| drop(black_box(original(black_box(text)))))) / per;
-    let here = time(|| {
+    let mut originals = || texts.iter().for_each(|text| drop(black_box(original(black_box(text)))));
+    let mut archives = || {
         texts.iter().for_each(|text| {
             black_box(ours(black_box(text.as_bytes()), &mut out));
         })
-    }) / per;
-    println!("| {name} | {rust:.0} | {here:.0} | {:.2} |", here / rust);
+    };
+    let per = texts.len() as f64;
+    let (rust, here) = least(&mut originals, &mut archives);
+    println!("| {name} | {:.0} | {:.0} | {:.2} |", rust / per, here / per, here / rust);
 }
 
 fn main() {

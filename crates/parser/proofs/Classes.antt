@@ -1,15 +1,41 @@
--- The classes of bytes that runs are made of: spaces are blanks, and the bits of two classes are its bytes. Assumes nothing.
+-- The two classes that hold every letter, every digit and one byte more; and letters, told from the bytes with bit 5 set. Assumes
+-- nothing.
 use mathlib.Core.Path.{_≡_, refl, sym, subst}
 use Prim.Native.Nat.{ℕ, zero, suc, _<_}
 use native.Mathlib.Nat.{le-of-suc-le-suc, not-suc-le-zero, eq-or-lt-of-le}
-use mathlib.Core.Bool.{Bool, true, false, not, cond, _&&_}
+use mathlib.Core.Bool.{Bool, true, false, not, cond, _&&_, _||_}
 use mathlib.Core.Logic.{⊎-elim}
+use lib.Dec.{eqb, leb}
+use lib.Bits.{bitOr}
 use Rattle.cel_text.specs.Byte.{blank, alphanumeric, identByte, stringByte}
-use Rattle.parser.specs.Run.{space, mark}
+use Rattle.parser.specs.Run.{space, letter, digit}
 
 pub space-blank : (b : ℕ) → space b ≡ true → blank b ≡ true
 unfolding blank
 space-blank b h = rw h
+
+-- letters and digits are what both classes share
+module _ (b : ℕ) where
+  shared : (d u l : Bool) → d || u || l ≡ (u || l) || d
+  shared true true l = refl
+  shared true false true = refl
+  shared true false false = refl
+  shared false true true = refl
+  shared false true false = refl
+  shared false false true = refl
+  shared false false false = refl
+
+  letters-digits : alphanumeric b ≡ letter b || digit b
+  unfolding alphanumeric
+  letters-digits = shared (leb 48 b && leb b 57) (leb 65 b && leb b 90) (leb 97 b && leb b 122)
+
+  pub ident-tests : identByte b ≡ letter b || digit b || eqb b 95
+  unfolding identByte
+  ident-tests = rw letters-digits
+
+  pub content-tests : stringByte b ≡ letter b || digit b || eqb b 45
+  unfolding stringByte
+  content-tests = rw letters-digits
 
 -- whether all numbers below n pass a test
 abbrev all : (ℕ → Bool) → ℕ → Bool
@@ -34,14 +60,9 @@ alike-same true b h = sym h
 alike-same false true h = h
 alike-same false false h = refl
 
--- two classes with the same bytes
-same-bytes : (f g : ℕ → Bool) → all (λ k. alike (f k) (g k)) 256 ≡ true → (b : ℕ) → b < 256 → f b ≡ g b
-same-bytes f g h b l = alike-same (f b) (g b) (all-at (λ k. alike (f k) (g k)) 256 h b l)
+abbrev folded : ℕ → Bool
+folded b = leb 97 (bitOr b 32) && leb (bitOr b 32) 122
 
-pub ident-marks : (b : ℕ) → b < 256 → identByte b ≡ mark 0x03ff000000000000 0x07fffffe87fffffe b
-unfolding identByte alphanumeric
-ident-marks = same-bytes identByte (mark 0x03ff000000000000 0x07fffffe87fffffe) refl
-
-pub content-marks : (b : ℕ) → b < 256 → stringByte b ≡ mark 0x03ff200000000000 0x07fffffe07fffffe b
-unfolding stringByte alphanumeric
-content-marks = same-bytes stringByte (mark 0x03ff200000000000 0x07fffffe07fffffe) refl
+-- a byte is a letter exactly where it is a small one with bit 5 set; byte by byte
+pub letter-folded : (b : ℕ) → b < 256 → letter b ≡ folded b
+letter-folded b l = sym (alike-same (folded b) (letter b) (all-at (λ k. alike (folded k) (letter k)) 256 refl b l))

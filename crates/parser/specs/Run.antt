@@ -1,7 +1,7 @@
 -- Runs of a class of bytes, as the contracts of `scan` cite them. Assumes nothing.
 use mathlib.Core.Path.{_≡_}
-use Prim.Native.Nat.{ℕ, _+_, _/_, _%_, _^_}
-use mathlib.Core.Bool.{Bool, cond, _&&_}
+use Prim.Native.Nat.{ℕ, _+_}
+use mathlib.Core.Bool.{Bool, _&&_, _||_}
 use lib.ListN.{drop}
 use lib.Dec.{leb, eqb}
 use Rattle.cel_text.specs.Byte.{Text, blank, identByte, stringByte, ascii, lead}
@@ -18,9 +18,12 @@ classOf Ident = identByte
 classOf Content = stringByte
 classOf Ascii = ascii
 
--- whether byte b has its bit in `low`, for the bytes below 64, or in `high`, for the 64 after them
-abbrev pub mark : ℕ → ℕ → ℕ → Bool
-mark low high b = leb b 127 && eqb (cond (leb 64 b) high low / 2 ^ (b % 64) % 2) 1
+-- the two classes that identifiers and strings share
+abbrev pub digit : ℕ → Bool
+digit b = leb 48 b && leb b 57
+
+abbrev pub letter : ℕ → Bool
+letter b = leb 65 b && leb b 90 || leb 97 b && leb b 122
 
 -- where the run of bytes of one class ends that begins at place p of x
 abbrev pub endOf : (ℕ → Bool) → Text → ℕ → ℕ

@@ -2,8 +2,8 @@
 ghost use mathlib.Core.Path.{_≡_};
 ghost use Prim.Native.Nat.{ℕ, _≤_, _<_, max};
 ghost use lib.ListN.{length, getD};
-ghost use Rattle.cel_text.specs.Byte.{blank, ascii};
-ghost use Rattle.parser.specs.Run.{classOf, endOf, NamedAt, mark};
+ghost use Rattle.cel_text.specs.Byte.{blank, identByte, stringByte, ascii};
+ghost use Rattle.parser.specs.Run.{classOf, endOf, NamedAt, letter, digit};
 use crate::Place;
 
 // The classes of bytes that runs are made of.
@@ -14,15 +14,6 @@ pub enum Class {
     Content,
     Ascii,
 }
-
-// Their bytes, a bit for each: those below 64, and those of the 64 after them.
-const DIGITS: u64 = 0x03ff000000000000;
-
-const DIGITS_HYPHEN: u64 = 0x03ff200000000000;
-
-const LETTERS: u64 = 0x07fffffe07fffffe;
-
-const LETTERS_UNDERSCORE: u64 = 0x07fffffe87fffffe;
 
 // A run of blanks, an identifier and a run of blanks: the identifier's ends and the place after them all.
 pub(crate) struct Name {
@@ -123,8 +114,8 @@ fn has(class: Class, b: u8) -> bool
     match class {
         Class::Blank => is_blank(b),
         Class::Space => b == b' ',
-        Class::Ident => marked(DIGITS, LETTERS_UNDERSCORE, b),
-        Class::Content => marked(DIGITS_HYPHEN, LETTERS, b),
+        Class::Ident => is_ident(b),
+        Class::Content => is_content(b),
         Class::Ascii => b < 128,
     }
 }
@@ -148,13 +139,46 @@ fn is_blank(b: u8) -> bool
     b == b'\r'
 }
 
-// Whether b has its bit in the two halves of a class: `low` for the bytes below 64, `high` for the 64 after them.
-fn marked(low: u64, high: u64, b: u8) -> bool
-    ensures { λ r. ⌜ r ≡ mark low high b ⌝ }
+fn is_ident(b: u8) -> bool
+    ensures { λ r. ⌜ r ≡ identByte b ⌝ }
 {
-    if 128 <= b {
+    if is_letter(b) {
+        return true;
+    }
+    if is_digit(b) {
+        return true;
+    }
+    b == b'_'
+}
+
+fn is_content(b: u8) -> bool
+    ensures { λ r. ⌜ r ≡ stringByte b ⌝ }
+{
+    if is_letter(b) {
+        return true;
+    }
+    if is_digit(b) {
+        return true;
+    }
+    b == b'-'
+}
+
+// A capital and its small letter differ in bit 5 alone.
+fn is_letter(b: u8) -> bool
+    ensures { λ r. ⌜ r ≡ letter b ⌝ }
+{
+    let small = b | 32;
+    if small < b'a' {
         return false;
     }
-    let half = if b < 64 { low } else { high };
-    (half >> (b % 64)) % 2 == 1
+    small <= b'z'
+}
+
+fn is_digit(b: u8) -> bool
+    ensures { λ r. ⌜ r ≡ digit b ⌝ }
+{
+    if b < b'0' {
+        return false;
+    }
+    b <= b'9'
 }

@@ -1,9 +1,6 @@
 -- `scan::has` meets its contract: each arm is its class's definition. Assumes nothing.
-use mathlib.Core.Path.{sym, _∙_}
 use borrow.Author.Needs.{needs}
-use native.Mathlib.Omega.{arith}
 use Rattle.cel_text.specs.Byte.{ascii}
-use Rattle.parser.proofs.Classes.{ident-marks, content-marks}
 use Rattle.parser.proofs.scan.has.Statement.{statement}
 use Rattle.parser.proofs.scan.has.Tie as tie
 
@@ -19,14 +16,14 @@ enum-told-2 c = search needs
 enum-told-3 : tie.Need-enum-told-3
 enum-told-3 c = search needs
 
-marked-requires : tie.Need-marked-requires
-marked-requires c κs = search needs
+is-ident-requires : tie.Need-is-ident-requires
+is-ident-requires c κs = search needs
 
 enum-told-4 : tie.Need-enum-told-4
 enum-told-4 c = search needs
 
-marked-requires-2 : tie.Need-marked-requires-2
-marked-requires-2 c κs = search needs
+is-content-requires : tie.Need-is-content-requires
+is-content-requires c κs = search needs
 
 enum-told-5 : tie.Need-enum-told-5
 enum-told-5 c = search needs
@@ -38,10 +35,10 @@ returns-2 : tie.Need-returns-2
 returns-2 c = rw (c .enum-told2 .given .1)
 
 returns-3 : tie.Need-returns-3
-returns-3 c = rw (c .before .enum-told3 .given .1) (c .marked .ensures ∙ sym (ident-marks (c .before .before .before .args .b) (omega arith)))
+returns-3 c = rw (c .before .enum-told3 .given .1) (c .is-ident .ensures)
 
 returns-4 : tie.Need-returns-4
-returns-4 c = rw (c .before .enum-told4 .given .1) (c .marked2 .ensures ∙ sym (content-marks (c .before .before .before .args .b) (omega arith)))
+returns-4 c = rw (c .before .enum-told4 .given .1) (c .is-content .ensures)
 
 returns-5 : tie.Need-returns-5
 unfolding ascii
@@ -49,4 +46,4 @@ returns-5 c =
     rw (c .enum-told5 .given .1)
 
 pub has-spec : {M : Type 1} → statement M
-has-spec = tie.close (tie.spec enum-told is-blank-requires enum-told-2 enum-told-3 marked-requires enum-told-4 marked-requires-2 enum-told-5 returns returns-2 returns-3 returns-4 returns-5)
+has-spec = tie.close (tie.spec enum-told is-blank-requires enum-told-2 enum-told-3 is-ident-requires enum-told-4 is-content-requires enum-told-5 returns returns-2 returns-3 returns-4 returns-5)
