@@ -12,7 +12,7 @@ extern "C" {
     fn hilladok_canonicalise(text: *const u8, length: usize, out: *mut u8, room: usize) -> u32;
 }
 
-const ROUNDS: usize = 401;
+const ROUNDS: usize = 4001;
 const NANOSECONDS_A_ROUND: u128 = 2_000_000;
 const REFUSED: u32 = 65_536;
 
