@@ -13,7 +13,7 @@ extern "C" {
 }
 
 const ROUNDS: usize = 4001;
-const NANOSECONDS_A_ROUND: u128 = 2_000_000;
+const NANOSECONDS_A_ROUND: u128 = 200_000;
 const REFUSED: u32 = 65_536;
 
 /// What the original prints, or None where it refuses.
@@ -57,13 +57,13 @@ fn levels(count: usize) -> String {
     )
 }
 
-/// How many calls take about a round's time.
+/// How many calls fill a round.
 fn calls_a_round(call: &mut dyn FnMut()) -> usize {
     let mut calls = 1;
     loop {
         let start = Instant::now();
         (0..calls).for_each(|_| call());
-        if start.elapsed().as_nanos() * 10 > NANOSECONDS_A_ROUND || calls > 1 << 20 {
+        if start.elapsed().as_nanos() > NANOSECONDS_A_ROUND || calls > 1 << 20 {
             return calls;
         }
         calls *= 2;
