@@ -1,6 +1,6 @@
 -- Numbers of rows and strings that a word holds, and the turns of a loop that counts. Assumes nothing.
 use mathlib.Core.Path.{_≡_}
-use Prim.Native.Nat.{ℕ, _+_, _-_, _*_, _^_, _≤_, _<_}
+use Prim.Native.Nat.{ℕ, _+_, _*_, _^_, _≤_, _<_}
 use native.Mathlib.Omega.{arith}
 use mir.Syntax.{w64}
 use mir.Val.{Fits}
@@ -17,17 +17,11 @@ end-as h k e = omega arith
 pub turn-first : {n e x : ℕ} → e ≡ x → n < x → n + 1 ≤ e
 turn-first e h = omega arith
 
-pub turn-within : {i n : ℕ} → i < n → i + 1 ≤ n
-turn-within h = omega arith
-
 pub turn-past : {i n : ℕ} → i + 1 ≤ n → i < n
 turn-past h = omega arith
 
 pub turn-later : {i n : ℕ} → i ≤ n → i ≤ n + 1
 turn-later h = omega arith
-
-pub turn-less : {i n : ℕ} → i < n → n - (i + 1) < n - i
-turn-less h = omega arith
 
 pub none-between : {i n : ℕ} → n ≤ i → i < n → ⊥
 none-between h k = omega arith

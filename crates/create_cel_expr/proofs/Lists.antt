@@ -3,7 +3,6 @@ use mathlib.Core.Path.{_≡_, refl, sym, ap, subst, _∙_}
 use Prim.Native.Nat.{ℕ, zero, suc, _+_, _-_, _≤_, _<_}
 use mathlib.Core.List.{List, [], _∷_, _++_, append-assoc, append-nil}
 use lib.ListN.{length}
-use native.Mathlib.Nat.{zero-add}
 use native.Mathlib.Omega.{arith}
 use borrow.Author.Tests.{eq-eqb, ne-eqb}
 use Rattle.cel_text.specs.Byte.{Text, bytes}
@@ -13,6 +12,7 @@ use Rattle.cel_policy.specs.Spans.{spanAt}
 use Rattle.cel_policy.specs.Printed.{joined, listText, listKey, printed, skipText, responseOnlyText, fullText}
 use Rattle.create_cel_expr.specs.Over.{over, fits, Wrote}
 use Rattle.create_cel_expr.specs.Given.{listed, Inside, AllInside}
+use Rattle.create_cel_expr.proofs.Widths.{part}
 use Rattle.create_cel_expr.proofs.Pieces.{Remains, wrote-then, room-then, remains-all, remains-fits, remains-room, remains-next, remains-last}
 
 abbrev pub tails : List Text → Text
@@ -95,17 +95,14 @@ module _ (x : Text) (ws : Words) (begin count : ℕ) where
 
 -- the strings of each of the three lists
 module _ {ws : Words} {x : Text} (k : Counted) (all : AllInside ws x (stringCount k) 0) where
-  inside-part : (n b : ℕ) → b + n ≤ stringCount k → AllInside ws x n b
-  inside-part n b le i lt = subst (Inside ws x) (zero-add (b + i)) (all (b + i) (omega arith))
-
   pub inside-request : AllInside ws x (k .requestHeaders) 0
-  inside-request = inside-part (k .requestHeaders) 0 (omega arith)
+  inside-request = part (Inside ws x) all (k .requestHeaders) 0 (omega arith)
 
   pub inside-query : AllInside ws x (k .queryParameters) (k .requestHeaders)
-  inside-query = inside-part (k .queryParameters) (k .requestHeaders) (omega arith)
+  inside-query = part (Inside ws x) all (k .queryParameters) (k .requestHeaders) (omega arith)
 
   pub inside-response : AllInside ws x (k .responseHeaders) (k .requestHeaders + k .queryParameters)
-  inside-response = inside-part (k .responseHeaders) (k .requestHeaders + k .queryParameters) (omega arith)
+  inside-response = part (Inside ws x) all (k .responseHeaders) (k .requestHeaders + k .queryParameters) (omega arith)
 
 -- the two keys of the response list
 pub key-exclusions : (kind : ℕ) → kind ≡ 2 → listKey kind ≡ bytes "response_header_exclusions"

@@ -1,7 +1,6 @@
 -- Lengths added up from the span table are those of the strings. Assumes nothing.
-use mathlib.Core.Path.{_≡_, ap, subst}
+use mathlib.Core.Path.{_≡_, ap}
 use Prim.Native.Nat.{ℕ, zero, suc, _+_, _-_, _*_, _≤_, _<_, min}
-use native.Mathlib.Nat.{zero-add}
 use lib.ListN.{length}
 use native.Mathlib.Omega.{arith}
 use borrow.Author.Tests.{eq-eqb, ne-eqb}
@@ -9,6 +8,7 @@ use Rattle.cel_text.specs.Table.{Words}
 use Rattle.cel_policy.specs.Policy.{Counted, stringCount}
 use Rattle.cel_policy.specs.Spans.{spanAt}
 use Rattle.create_cel_expr.specs.Measure.{bytesOf, listOf, textOf, Ordered}
+use Rattle.create_cel_expr.proofs.Widths.{part}
 
 module _ (ws : Words) (count begin : ℕ) where
   bytes-next :
@@ -43,7 +43,7 @@ module _ (ws : Words) (k : Counted) (all : Ordered ws (stringCount k) 0) (few : 
 
   measured : (n b : ℕ) → b + n ≤ stringCount k → Measured n b
   measured n b le = (
-    λ i lt. subst (λ (j : ℕ). (suc (2 * j) < length ws) × (spanAt ws j .from ≤ spanAt ws j .to)) (zero-add (b + i)) (all (b + i) (omega arith)),
+    part (λ (j : ℕ). (suc (2 * j) < length ws) × (spanAt ws j .from ≤ spanAt ws j .to)) all n b le,
     (short, omega arith),
   )
 

@@ -1,6 +1,6 @@
 -- One pair of digits, one decimal digit more. Assumes nothing.
 use mathlib.Core.Path.{_≡_, refl, sym, ap, _∙_}
-use Prim.Native.Nat.{ℕ, suc, _+_, _-_, _*_, _/_, _≤_, _<_}
+use Prim.Native.Nat.{ℕ, zero, suc, _+_, _-_, _*_, _/_, _≤_, _<_, min}
 use native.Mathlib.Numerals.{add-one}
 use native.Mathlib.Omega.{arith}
 use mathlib.Core.List.{List, [], _∷_, _++_, append-nil, append-assoc}
@@ -9,7 +9,7 @@ use lib.Seq.{drop-cons, length-take-le, take-suc-set, drop-set-lt, drop-drop}
 use borrow.Author.Tests.{lt-ltb, le-ltb, le-leb, lt-leb, eq-eqb, ne-eqb}
 use Rattle.lines.specs.declared.field.Count.{Count}
 use Rattle.lines.specs.declared.field.Count.the-variants.{Number, Bad}
-use Rattle.lines.specs.Fields.{hexValue, hexBytes, hexCount, hexLeft, readFrom, readDecimal, fieldEnd, ending, numberAfter}
+use Rattle.lines.specs.Fields.{hexValue, hexBytes, hexCount, hexLeft, readFrom, readDecimal, partEnd, partFrom, fieldEnd, ending, numberAfter}
 
 -- a field whose pairs do not fit
 module _ (x lent : List ℕ) where
@@ -113,3 +113,22 @@ read-none most (b ∷ bs) h = let z : ⊥ = omega arith in absurd z
 pub number-read : (most : ℕ) (line : List ℕ) (at end : ℕ) (r : Count) → (at ≡ length line → ⊥) → end ≡ fieldEnd line (at + 1) → r ≡ readDecimal most (take (end - (at + 1)) (drop (at + 1) line))
     → ending r end ≡ numberAfter most line at
 number-read most line at end r n e d = rw (ne-eqb _ _ n, sym e, sym d)
+
+-- the parts after one that ends at `end`
+module _ (mark : ℕ) (line : List ℕ) where
+  part-none : (n : ℕ) {at : ℕ} → at ≡ length line → partFrom mark n line at ≡ length line
+  part-none zero e = e
+  part-none (suc n) e = part-none n (omega (arith, e))
+
+  pub part-here : (at : ℕ) {i n : ℕ} → n ≤ i → partFrom mark (n - i) line at ≡ at
+  part-here at {i = i} {n = n} h = let m : n - i ≡ 0 = omega arith in rw m
+
+  module _ (at : ℕ) {end i n : ℕ} (e : end ≡ partEnd mark line at) (h : i < n) where
+    part-then : partFrom mark (n - i) line at ≡ partFrom mark (n - (i + 1)) line (min (end + 1) (length line))
+    part-then = let m : n - i ≡ suc (n - (i + 1)) = omega arith in rw (m, e)
+
+    pub part-last : end ≡ length line → partFrom mark (n - i) line at ≡ length line
+    part-last l = part-then ∙ part-none (n - (i + 1)) (omega arith)
+
+    pub part-next : end ≤ length line → (end ≡ length line → ⊥) → partFrom mark (n - i) line at ≡ partFrom mark (n - (i + 1)) line (end + 1)
+    part-next l d = let m : min (end + 1) (length line) ≡ end + 1 = omega (arith, d) in part-then ∙ rw m

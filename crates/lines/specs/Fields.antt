@@ -1,5 +1,5 @@
 -- The fields of a line: hexadecimal digits and decimal numbers. Assumes nothing.
-use Prim.Native.Nat.{ℕ, _+_, _-_, _*_, _/_, _≤_}
+use Prim.Native.Nat.{ℕ, zero, suc, _+_, _-_, _*_, _/_, _≤_, min}
 use mathlib.Core.Bool.{Bool, cond, _&&_}
 use mathlib.Core.List.{List, [], _∷_, _++_}
 use lib.ListN.{length, take, drop}
@@ -49,9 +49,18 @@ abbrev pub AtMost : (most : ℕ) → Count → Type 0
 AtMost most (Number n) = n ≤ most
 AtMost most Bad = Unit
 
--- where the field ends that begins at a place
+-- where the part ends that begins at a place, its end being a mark or the line's end
+abbrev pub partEnd : (mark : ℕ) → List ℕ → (from : ℕ) → ℕ
+partEnd mark line from = from + indexOf mark (slice from (length line) line)
+
+-- where part n begins, counted from the one that begins at a place; the line's end where there are fewer
+abbrev pub partFrom : (mark n : ℕ) → List ℕ → (from : ℕ) → ℕ
+partFrom mark zero line from = from
+partFrom mark (suc n) line from = partFrom mark n line (min (partEnd mark line from + 1) (length line))
+
+-- where the field ends that begins at a place: at a tab
 abbrev pub fieldEnd : List ℕ → (from : ℕ) → ℕ
-fieldEnd line from = from + indexOf 9 (slice from (length line) line)
+fieldEnd line from = partEnd 9 line from
 
 abbrev pub ending : Count → (end : ℕ) → Field
 ending (Number n) end = Is n end

@@ -2,7 +2,7 @@
 ghost use mathlib.Core.Path.{_≡_};
 ghost use Prim.Native.Nat.{_≤_};
 ghost use lib.ListN.{length};
-ghost use Rattle.lines.specs.Fields.{hexValue, hexCount, hexLeft, readDecimal, AtMost, numberAfter, Within};
+ghost use Rattle.lines.specs.Fields.{hexValue, hexCount, hexLeft, readDecimal, AtMost, numberAfter, partFrom, Within};
 
 // How many bytes a field gives, or the number that it is.
 pub enum Count {
@@ -120,4 +120,22 @@ pub fn number_after(line: &[u8], at: usize, most: u32) -> Field
         return Field::Wrong;
     };
     Field::Is(n, end)
+}
+
+// Where part `number` of a line begins, counted from 0, the parts being separated by a mark; the line's end where it has fewer parts.
+pub fn part_start(line: &[u8], number: u32, mark: u8) -> usize
+    ensures { λ r. ⌜ r ≡ partFrom mark number (now (line .entry)) 0 ⌝ }
+    ensures { λ r. ⌜ r ≤ length (now (line .entry)) ⌝ }
+{
+    let mut at = 0;
+    let mut i = 0;
+    while i < number {
+        let end = bytes::scan::find(line, at, line.len(), mark);
+        if end == line.len() {
+            return end;
+        }
+        at = end + 1;
+        i += 1;
+    }
+    at
 }

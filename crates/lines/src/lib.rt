@@ -7,6 +7,7 @@ pub use field::Count;
 pub use field::Field;
 pub use field::decimal;
 pub use field::number_after;
+pub use field::part_start;
 pub use field::unhex;
 pub use input::Line;
 pub use input::next;

@@ -27,6 +27,7 @@ use Rattle.lines.proofs.none
 use Rattle.lines.proofs.unhex
 use Rattle.lines.proofs.decimal
 use Rattle.lines.proofs.number_after
+use Rattle.lines.proofs.part_start
 use Rattle.lines.proofs.filled
 use Rattle.lines.proofs.put
 use Rattle.lines.proofs.put_bad
@@ -117,6 +118,10 @@ decimal-unique κs a r s v w e f = (meet (e .0) (f .0), refl)
 -- `lines::number_after`: the number, and where its field ends
 pub number-after-unique : Unique number_after.Kinds.ps number_after.Kinds.r number_after.Reads.Post
 number-after-unique κs a r s v w e f = (meet (e .0) (f .0), refl)
+
+-- `lines::part_start`: the place
+pub part-start-unique : Unique part_start.Kinds.ps part_start.Kinds.r part_start.Reads.Post
+part-start-unique κs a r s v w e f = (meet (e .0) (f .0), refl)
 
 -- `lines::filled`: the bytes
 pub filled-unique : Unique filled.Kinds.ps filled.Kinds.r filled.Reads.Post

@@ -1,71 +1,47 @@
-// The judge's words for an answer. Each function writes from a place on and answers the place after what it wrote.
+// The judge's words for an answer. Each function writes from a place on and answers the place after what it wrote. Words of one sort stand
+// in a line, in the order of the numbers of document 01.
 ghost use Prim.Native.Nat.{_≤_};
 ghost use lib.ListN.{length};
-use ast_mapping::name;
 use cel_policy::Policy;
 use lines::put;
-use parser::ARRAY;
-use parser::FUNCTION;
-use parser::OBJECT;
-use parser::STRING;
-use parser::SYNTAX;
+
+// The word with this number in a line of words, which bars separate and which are counted from 0; nothing where there is none.
+fn put_word(out: &mut [u8], at: usize, line: &[u8], number: u32) -> usize
+    requires { ⌜ at ≤ length (now out) ⌝ }
+    ensures { λ r. ⌜ r ≤ length (now (out .exit)) ⌝ }
+{
+    let from = lines::part_start(line, number, b'|');
+    let to = bytes::scan::find(line, from, line.len(), b'|');
+    put_part(out, at, line, from, to)
+}
 
 fn put_name(out: &mut [u8], at: usize, name: u32) -> usize
     requires { ⌜ at ≤ length (now out) ⌝ }
     ensures { λ r. ⌜ r ≤ length (now (out .exit)) ⌝ }
 {
-    match name {
-        name::DEFAULT_CERTIFICATION => put(out, at, b"\tdefault_certification"),
-        name::VALIDATION_ARGS => put(out, at, b"\tValidationArgs"),
-        name::NO_CERTIFICATION => put(out, at, b"\tno_certification"),
-        name::CERTIFICATION => put(out, at, b"\tcertification"),
-        name::CERTIFICATION_OBJECT => put(out, at, b"\tCertification"),
-        name::NO_REQUEST_CERTIFICATION => put(out, at, b"\tno_request_certification"),
-        name::REQUEST_CERTIFICATION => put(out, at, b"\trequest_certification"),
-        name::REQUEST_CERTIFICATION_OBJECT => put(out, at, b"\tRequestCertification"),
-        name::CERTIFIED_REQUEST_HEADERS => put(out, at, b"\tcertified_request_headers"),
-        name::CERTIFIED_QUERY_PARAMETERS => put(out, at, b"\tcertified_query_parameters"),
-        name::RESPONSE_CERTIFICATION => put(out, at, b"\tresponse_certification"),
-        name::RESPONSE_CERTIFICATION_OBJECT => put(out, at, b"\tResponseCertification"),
-        name::CERTIFIED_RESPONSE_HEADERS => put(out, at, b"\tcertified_response_headers"),
-        name::RESPONSE_HEADER_EXCLUSIONS => put(out, at, b"\tresponse_header_exclusions"),
-        name::RESPONSE_HEADER_LIST => put(out, at, b"\tResponseHeaderList"),
-        name::HEADERS => put(out, at, b"\theaders"),
-        _ => at,
-    }
+    let names =
+        b"|\tdefault_certification|\tValidationArgs|\tno_certification|\tcertification|\tCertification|\tno_request_certification|\trequest_certification|\tRequestCertification|\tcertified_request_headers|\tcertified_query_parameters|\tresponse_certification|\tResponseCertification|\tcertified_response_headers|\tresponse_header_exclusions|\tResponseHeaderList|\theaders";
+    put_word(out, at, names, name)
 }
 
 fn put_kind(out: &mut [u8], at: usize, kind: u32) -> usize
     requires { ⌜ at ≤ length (now out) ⌝ }
     ensures { λ r. ⌜ r ≤ length (now (out .exit)) ⌝ }
 {
-    match kind {
-        STRING => put(out, at, b"\tString"),
-        ARRAY => put(out, at, b"\tArray"),
-        OBJECT => put(out, at, b"\tObject"),
-        FUNCTION => put(out, at, b"\tFunction"),
-        _ => at,
-    }
+    put_word(out, at, b"|\tString|\tArray|\tObject|\tFunction", kind)
 }
 
-// A refusal that the Rust makes as well.
+// A refusal: the judge's name for it, which limits do not have.
 fn put_error(out: &mut [u8], refusal: u32) -> usize
     ensures { λ r. ⌜ r ≤ length (now (out .exit)) ⌝ }
 {
-    match refusal {
-        SYNTAX => put(out, 0, b"CelSyntaxException"),
-        7 => put(out, 0, b"UnexpectedNodeType"),
-        8 => put(out, 0, b"UnexpectedNodeName"),
-        9 => put(out, 0, b"MissingFunctionParameter"),
-        10 => put(out, 0, b"MissingObjectProperty"),
-        11 => put(out, 0, b"ExtraneousValidationArgsProperty"),
-        12 => put(out, 0, b"MissingValidationArgsProperty"),
-        13 => put(out, 0, b"ExtraneousRequestCertificationProperty"),
-        14 => put(out, 0, b"MissingRequestCertificationProperty"),
-        15 => put(out, 0, b"ExtraneousResponseCertificationProperty"),
-        16 => put(out, 0, b"MissingResponseCertificationProperty"),
-        _ => put_limit(out, refusal),
+    let errors =
+        b"||||CelSyntaxException|||UnexpectedNodeType|UnexpectedNodeName|MissingFunctionParameter|MissingObjectProperty|ExtraneousValidationArgsProperty|MissingValidationArgsProperty|ExtraneousRequestCertificationProperty|MissingRequestCertificationProperty|ExtraneousResponseCertificationProperty|MissingResponseCertificationProperty";
+    let end = put_word(out, 0, errors, refusal);
+    if end == 0 {
+        return put_limit(out, refusal);
     }
+    end
 }
 
 fn put_limit(out: &mut [u8], refusal: u32) -> usize
@@ -79,22 +55,14 @@ fn put_form(out: &mut [u8], at: usize, form: u32) -> usize
     requires { ⌜ at ≤ length (now out) ⌝ }
     ensures { λ r. ⌜ r ≤ length (now (out .exit)) ⌝ }
 {
-    match form {
-        cel_policy::SKIP => put(out, at, b"\tSkip"),
-        cel_policy::RESPONSE_ONLY => put(out, at, b"\tResponseOnly"),
-        _ => put(out, at, b"\tFull"),
-    }
+    put_word(out, at, b"|\tSkip|\tResponseOnly|\tFull", form)
 }
 
 fn put_list_kind(out: &mut [u8], at: usize, kind: u32) -> usize
     requires { ⌜ at ≤ length (now out) ⌝ }
     ensures { λ r. ⌜ r ≤ length (now (out .exit)) ⌝ }
 {
-    match kind {
-        cel_policy::INCLUSIONS => put(out, at, b"\tinclusions"),
-        cel_policy::EXCLUSIONS => put(out, at, b"\texclusions"),
-        _ => put(out, at, b"\tnone"),
-    }
+    put_word(out, at, b"\tnone|\tinclusions|\texclusions", kind)
 }
 
 // The bytes from `from` up to `to` of the text, as far as it has them.

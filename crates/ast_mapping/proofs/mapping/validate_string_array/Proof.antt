@@ -2,10 +2,11 @@
 use mathlib.Core.Path.{_≡_, refl, sym, ap, _∙_}
 use Prim.Native.Nat.{ℕ, suc, _-_, _+_, _≤_, _<_}
 use native.Mathlib.Nat.{le-refl}
+use native.Mathlib.Numerals.{add-one-le}
 use lib.Dec.{lit<}
 use mir.Facts.{fits-lit}
-use Rattle.ast_mapping.proofs.Counts.{lt-as, end-as, turn-first, turn-within, turn-past, turn-later, turn-less, none-between, fits-node}
-use borrow.Author.Count.{below-more}
+use Rattle.ast_mapping.proofs.Counts.{lt-as, end-as, turn-first, turn-past, turn-later, none-between, fits-node}
+use borrow.Author.Count.{falls, below-more}
 use Rattle.cel_policy.specs.Mapping.{bad}
 use Rattle.ast_mapping.specs.View.{word, Held}
 use Rattle.ast_mapping.proofs.Lists.{tabled-row, tabled-small, wrong-array, all-strings, no-string-at}
@@ -49,19 +50,19 @@ refused-requires-2 : tie.Need-refused-requires-2 Inv-loop μ-loop
 refused-requires-2 c κs = tabled-small (c .before .before .before .before .before .before .before .before .before .pre) (c .before .before .before .loop .next) (lt-as (c .before .before .before .before .before .word2 .ensures) (c .before .before .loop-test .taken))
 
 returns-2 : tie.Need-returns-2 Inv-loop μ-loop
-returns-2 c = (λ x h. ap bad (c .refused2 .ensures) ∙ no-string-at (c .before .before .before .before .before .before .before .before .before .before .args .table .now) x (c .before .before .before .before .before .before .before .before .before .before .args .name) (c .before .before .before .before .before .before .before .before .before .before .args .array .0) h (sym (c .before .before .before .before .before .before .before .before .word .ensures) ∙ c .before .before .before .before .before .before .before .if1 .left) (c .before .before .before .before .loop .next) (turn-past (c .before .before .before .before .loop .inv .0)) (λ i a b. c .before .before .before .before .loop .inv .2 i (turn-within a) b) (lt-as (c .before .before .before .before .before .before .word2 .ensures) (c .before .before .before .loop-test .taken)) (λ e. c .before .if2 .taken (c .before .before .word3 .ensures ∙ e)))
+returns-2 c = (λ x h. ap bad (c .refused2 .ensures) ∙ no-string-at (c .before .before .before .before .before .before .before .before .before .before .args .table .now) x (c .before .before .before .before .before .before .before .before .before .before .args .name) (c .before .before .before .before .before .before .before .before .before .before .args .array .0) h (sym (c .before .before .before .before .before .before .before .before .word .ensures) ∙ c .before .before .before .before .before .before .before .if1 .left) (c .before .before .before .before .loop .next) (turn-past (c .before .before .before .before .loop .inv .0)) (λ i a b. c .before .before .before .before .loop .inv .2 i (add-one-le a) b) (lt-as (c .before .before .before .before .before .before .word2 .ensures) (c .before .before .before .loop-test .taken)) (λ e. c .before .if2 .taken (c .before .before .word3 .ensures ∙ e)))
 
 add-next-2 : tie.Need-add-next-2 Inv-loop μ-loop
 add-next-2 c = fits-node (tabled-small (c .before .before .before .before .before .before .before .before .before .pre) (c .before .before .before .loop .next) (lt-as (c .before .before .before .before .before .word2 .ensures) (c .before .before .loop-test .taken)))
 
 loop-less : tie.Need-loop-less Inv-loop μ-loop
-loop-less c = turn-less (c .before .before .loop-test .taken)
+loop-less c = falls _ _ (c .before .before .loop-test .taken)
 
 loop-again : tie.Need-loop-again Inv-loop μ-loop
-loop-again c = (turn-later (c .before .before .before .loop .inv .0), turn-within (c .before .before .loop-test .taken), λ i a b. below-more (λ (k : ℕ). c .before .before .before .before .before .before .before .before .before .args .array .0 + 1 ≤ k → word (c .before .before .before .before .before .before .before .before .before .args .table .now) k 0 ≡ 1) (c .before .before .before .loop .next) (λ k l f. c .before .before .before .loop .inv .2 k f l) (λ f. sym (c .before .word3 .ensures) ∙ c .if2 .left) i b a)
+loop-again c = (turn-later (c .before .before .before .loop .inv .0), add-one-le (c .before .before .loop-test .taken), λ i a b. below-more (λ (k : ℕ). c .before .before .before .before .before .before .before .before .before .args .array .0 + 1 ≤ k → word (c .before .before .before .before .before .before .before .before .before .args .table .now) k 0 ≡ 1) (c .before .before .before .loop .next) (λ k l f. c .before .before .before .loop .inv .2 k f l) (λ f. sym (c .before .word3 .ensures) ∙ c .if2 .left) i b a)
 
 returns-3 : tie.Need-returns-3 Inv-loop μ-loop
-returns-3 c = (λ x h. all-strings (c .before .before .before .before .before .before .before .args .table .now) x (c .before .before .before .before .before .before .before .args .name) (c .before .before .before .before .before .before .before .args .array .0) h (sym (c .before .before .before .before .before .word .ensures) ∙ c .before .before .before .before .if1 .left) (c .before .loop .next) (turn-past (c .before .loop .inv .0)) (λ i a b. c .before .loop .inv .2 i (turn-within a) b) (end-as (c .before .loop .inv .1) (c .loop-test .left) (c .before .before .before .word2 .ensures)))
+returns-3 c = (λ x h. all-strings (c .before .before .before .before .before .before .before .args .table .now) x (c .before .before .before .before .before .before .before .args .name) (c .before .before .before .before .before .before .before .args .array .0) h (sym (c .before .before .before .before .before .word .ensures) ∙ c .before .before .before .before .if1 .left) (c .before .loop .next) (turn-past (c .before .loop .inv .0)) (λ i a b. c .before .loop .inv .2 i (add-one-le a) b) (end-as (c .before .loop .inv .1) (c .loop-test .left) (c .before .before .before .word2 .ensures)))
 
 pub validate-string-array-spec : {M : Type 1} → statement M
 validate-string-array-spec =

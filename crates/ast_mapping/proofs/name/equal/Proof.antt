@@ -1,12 +1,13 @@
 -- `name::equal` meets its contract: two texts of one length are the same exactly where the bytes passed are and what is left is. Assumes
 -- nothing.
-use Rattle.ast_mapping.proofs.Counts.{le-as, lt-as, turn-within, turn-less}
+use Rattle.ast_mapping.proofs.Counts.{le-as, lt-as}
 use mathlib.Core.Path.{_≡_, refl, sym, _∙_}
 use mathlib.Core.Bool.{_&&_}
 use Prim.Native.Nat.{suc, _-_, _≤_}
 use lib.ListN.{length, drop, getD}
 use lib.Dec.{eqb}
-use native.Mathlib.Numerals.{add-one}
+use borrow.Author.Count.{falls}
+use native.Mathlib.Numerals.{add-one, add-one-le}
 use Rattle.cel_policy.specs.Names.{same}
 use Rattle.ast_mapping.proofs.Names.{same-lengths, same-step, same-end, and-assoc}
 use Rattle.ast_mapping.proofs.name.equal.Statement.{statement}
@@ -38,7 +39,7 @@ add-i : tie.Need-add-i Inv-loop μ-loop
 add-i c = omega arith
 
 loop-less : tie.Need-loop-less Inv-loop μ-loop
-loop-less c = turn-less (c .before .before .before .loop-test .taken)
+loop-less c = falls _ _ (c .before .before .before .loop-test .taken)
 
 loop-again : tie.Need-loop-again Inv-loop μ-loop
 loop-again c =
@@ -47,7 +48,7 @@ loop-again c =
     let i = c .before .before .before .before .loop .i in
     let more = c .before .before .before .loop-test .taken in
     let both = c .before .before .before .before .loop .inv .1 in
-    (turn-within more, both, c .before .before .before .before .loop .inv .2 ∙ rw (add-one, same-step x y i more (lt-as both more), c .still .ensures) (and-assoc (c .before .before .before .before .loop .so) (eqb (getD x i 0) (getD y i 0)) (same (drop (suc i) x) (drop (suc i) y))))
+    (add-one-le more, both, c .before .before .before .before .loop .inv .2 ∙ rw (add-one, same-step x y i more (lt-as both more), c .still .ensures) (and-assoc (c .before .before .before .before .loop .so) (eqb (getD x i 0) (getD y i 0)) (same (drop (suc i) x) (drop (suc i) y))))
 
 returns-2 : tie.Need-returns-2 Inv-loop μ-loop
 returns-2 c = sym (c .before .loop .inv .2 ∙ same-end (c .before .before .before .before .before .args .a .now) (c .before .before .before .before .before .args .b .now) (c .before .loop .i) (c .before .loop .so) (c .loop-test .left) (le-as (sym (c .before .loop .inv .1)) refl (c .loop-test .left)))

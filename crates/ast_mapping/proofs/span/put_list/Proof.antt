@@ -1,11 +1,12 @@
 -- `span::put_list` meets its contract: what is still to be put, put into the table as it is, gives the table as it has to be. Assumes nothing.
 use mathlib.Core.Path.{_≡_, refl, sym, ap, _∙_}
 use Prim.Native.Nat.{ℕ, suc, _-_, _+_, _*_, _^_, _≤_, _<_}
-use native.Mathlib.Numerals.{add-one}
+use native.Mathlib.Numerals.{add-one, add-one-le}
 use native.Mathlib.Nat.{le-refl}
 use native.Mathlib.Omega.{arith}
 use lib.Dec.{lit<}
-use Rattle.ast_mapping.proofs.Counts.{lt-as, turn-first, turn-within, turn-later, turn-less, fits-node, fits-row, fits-word, fits-bytes, fits-string, fits-from, fits-from-bytes, fits-to, fits-to-bytes, row-word, span-from, span-to, span-near}
+use borrow.Author.Count.{falls}
+use Rattle.ast_mapping.proofs.Counts.{lt-as, turn-first, turn-later, fits-node, fits-row, fits-word, fits-bytes, fits-string, fits-from, fits-from-bytes, fits-to, fits-to-bytes, row-word, span-from, span-to, span-near}
 use Rattle.ast_mapping.proofs.Lists.{tabled-row, tabled-small}
 use lib.ListN.{length, set, length-set}
 use lib.Seq.{sets}
@@ -103,10 +104,10 @@ add-at : tie.Need-add-at Inv-loop μ-loop
 add-at c = fits-string (near (c .before .before))
 
 loop-less : tie.Need-loop-less Inv-loop μ-loop
-loop-less c = turn-less (c .before .before .loop-test .taken)
+loop-less c = falls _ _ (c .before .before .loop-test .taken)
 
 loop-again : tie.Need-loop-again Inv-loop μ-loop
-loop-again c = (turn-later (c .before .before .before .loop .inv .0), turn-within (c .before .before .loop-test .taken), place-next (c .before .before .before .before .before .before .before .before .args .from) (c .before .before .before .loop .inv .0) (c .before .before .before .loop .inv .2), simp length-set (c .before .before .before .loop .inv .3), c .before .before .before .loop .inv .4 ∙ put-one (c .before .before .before .before .before .before .before .before .args .table .now) (c .before .before .before .loop .spans) (c .before .before .before .loop .next) (c .before .before .before .before .before .word .result) (c .before .before .before .loop .at) (c .before .before .loop-test .taken))
+loop-again c = (turn-later (c .before .before .before .loop .inv .0), add-one-le (c .before .before .loop-test .taken), place-next (c .before .before .before .before .before .before .before .before .args .from) (c .before .before .before .loop .inv .0) (c .before .before .before .loop .inv .2), simp length-set (c .before .before .before .loop .inv .3), c .before .before .before .loop .inv .4 ∙ put-one (c .before .before .before .before .before .before .before .before .args .table .now) (c .before .before .before .loop .spans) (c .before .before .before .loop .next) (c .before .before .before .before .before .word .result) (c .before .before .before .loop .at) (c .before .before .loop-test .taken))
 
 same-length : tie.Need-same-length Inv-loop μ-loop
 same-length c = c .before .loop .inv .3

@@ -2,12 +2,14 @@
 use mathlib.Core.Path.{_≡_}
 use Prim.Native.Nat.{ℕ, _+_, _-_, _≤_, min}
 use native.Mathlib.Nat.{add-zero, sub-zero}
+use native.Mathlib.Numerals.{add-one-le}
+use borrow.Author.Count.{falls}
 use native.Mathlib.Omega.{arith}
 use Rattle.create_cel_expr.specs.Measure.{bytesOf}
 use Rattle.create_cel_expr.proofs.Sums.{bytes-turn, bytes-end}
 use Rattle.create_cel_expr.proofs.measure.strings.Statement.{statement}
 use Rattle.create_cel_expr.proofs.measure.strings.Tie as tie
-use Rattle.create_cel_expr.proofs.Widths.{fits-next, turn-within, turn-less}
+use Rattle.create_cel_expr.proofs.Widths.{fits-next}
 
 abbrev Inv-loop : tie.InvT-loop
 Inv-loop spans begin count before length₀ i₀ length i = (i ≤ count) × (length ≤ 8193) × (min 8193 (length + bytesOf spans (count - i) (begin + i)) ≡ min 8193 (before + bytesOf spans count begin))
@@ -37,13 +39,13 @@ add-i : tie.Need-add-i Inv-loop μ-loop
 add-i c = fits-next (c .before .before .before .loop-test .taken) (c .before .before .before .before .before .before .fits .count)
 
 loop-less : tie.Need-loop-less Inv-loop μ-loop
-loop-less c = turn-less (c .before .before .before .loop-test .taken)
+loop-less c = falls _ _ (c .before .before .before .loop-test .taken)
 
 loop-again : tie.Need-loop-again Inv-loop μ-loop
 loop-again c =
     let s = c .before .before .before .before .before .before .args in
     let turn = bytes-turn (s .spans .now) (s .count) (s .begin) (c .before .before .before .before .loop .i) (c .before .before .before .loop-test .taken) (c .before .before .before .before .loop .length) (c .before .before .to .ensures) (c .before .from .ensures) (c .sum .ensures) (c .before .before .before .before .loop .inv .2) in
-    (turn-within (c .before .before .before .loop-test .taken), turn .0, turn .1)
+    (add-one-le (c .before .before .before .loop-test .taken), turn .0, turn .1)
 
 returns : tie.Need-returns Inv-loop μ-loop
 returns c = bytes-end (c .before .before .before .args .spans .now) (c .before .before .before .args .count) (c .before .before .before .args .begin) (c .before .loop .i) (c .loop-test .left) (c .before .loop .inv .1) (c .before .loop .inv .2)

@@ -2,6 +2,8 @@
 use mathlib.Core.Path.{_≡_, refl, _∙_, subst}
 use Prim.Native.Nat.{_+_, _-_, _≤_}
 use native.Mathlib.Nat.{add-zero, le-refl}
+use native.Mathlib.Numerals.{add-one-le}
+use borrow.Author.Count.{falls}
 use lib.ListN.{length}
 use native.Mathlib.Omega.{arith}
 use Rattle.create_cel_expr.specs.Over.{over}
@@ -10,7 +12,7 @@ use Rattle.create_cel_expr.proofs.Pieces.{Remains, wrote-none}
 use Rattle.create_cel_expr.proofs.Lists.{restOf, list-none, first-room, first-then, next-room, next-then, last-room, last-then}
 use Rattle.create_cel_expr.proofs.write.list.Statement.{statement}
 use Rattle.create_cel_expr.proofs.write.list.Tie as tie
-use Rattle.create_cel_expr.proofs.Widths.{fits-next, turn-within, turn-less, turn-begun, some}
+use Rattle.create_cel_expr.proofs.Widths.{fits-next, turn-begun, some}
 
 abbrev Inv-loop : tie.InvT-loop
 Inv-loop out₀ at text spans begin count past₀ i₀ out past i = (1 ≤ i) × (i ≤ count) × (length out ≡ length out₀) × Remains out past (restOf text spans begin count i) (over out₀ past₀ (restOf text spans begin count 1)) (past₀ + length (restOf text spans begin count 1))
@@ -44,12 +46,12 @@ add-i : tie.Need-add-i Inv-loop μ-loop
 add-i c = fits-next (c .before .before .before .before .loop-test .taken) (c .before .before .before .before .before .before .before .before .before .before .before .before .before .before .fits .count)
 
 loop-less : tie.Need-loop-less Inv-loop μ-loop
-loop-less c = turn-less (c .before .before .before .before .loop-test .taken)
+loop-less c = falls _ _ (c .before .before .before .before .loop-test .taken)
 
 loop-again : tie.Need-loop-again Inv-loop μ-loop
 loop-again c = (
   turn-begun (c .before .before .before .before .before .loop .inv .0),
-  turn-within (c .before .before .before .before .loop-test .taken),
+  add-one-le (c .before .before .before .before .loop-test .taken),
   c .before .before .next .kept .0 ∙ c .before .before .before .before .before .loop .inv .2,
   next-then (c .before .before .before .before .before .before .before .before .before .before .before .before .before .before .args .text .now) (c .before .before .before .before .before .before .before .before .before .before .before .before .before .before .args .spans .now) (c .before .before .before .before .before .before .before .before .before .before .before .before .before .before .args .begin) (c .before .before .before .before .before .before .before .before .before .before .before .before .before .before .args .count) (c .before .before .before .before .before .loop .i) (c .before .before .before .before .loop-test .taken) (c .before .before .before .before .before .loop .inv .3) (c .before .before .next .ensures),
 )
