@@ -1,5 +1,5 @@
 // A page of text for a person, whatever bytes it is about. `store` alone writes to the output; what is put is escaped where it is not
-// plain, and lines are ended by `end_line` alone. So each function keeps `Shown`: every byte of the page is a line end or printable
+// plain, and lines are ended by `end_line` alone, which `say` calls for its own words. So each function keeps `Shown`: every byte of the page is a line end or printable
 // ASCII. Each writes from the page's end on, as far as there is room, and answers the page's end then.
 ghost use Prim.Native.Nat.{_≤_, _<_};
 ghost use Rattle.page.specs.Shown.{Legible, Shown};
@@ -111,15 +111,6 @@ pub fn put(out: &mut [u8], at: usize, piece: &[u8]) -> usize
     end
 }
 
-// A piece, and the line's end.
-pub fn put_line(out: &mut [u8], at: usize, piece: &[u8]) -> usize
-    requires { ⌜ Shown (now out) at ⌝ }
-    ensures { λ r. ⌜ Shown (now (out .exit)) r ⌝ }
-{
-    let end = put(out, at, piece);
-    end_line(out, end)
-}
-
 pub fn put_spaces(out: &mut [u8], at: usize, n: usize) -> usize
     requires { ⌜ Shown (now out) at ⌝ }
     requires { ⌜ n ≤ 80 ⌝ }
@@ -129,13 +120,39 @@ pub fn put_spaces(out: &mut [u8], at: usize, n: usize) -> usize
     put(out, at, &spaces[..n])
 }
 
-pub fn put_number(out: &mut [u8], at: usize, n: usize) -> usize
+fn put_number(out: &mut [u8], at: usize, n: usize) -> usize
     requires { ⌜ Shown (now out) at ⌝ }
     ensures { λ r. ⌜ Shown (now (out .exit)) r ⌝ }
 {
     let mut digits = [0u8; 20];
     let k = io::decimal(n as u64, &mut digits);
     put(out, at, &digits[..k])
+}
+
+// A byte of a page's own words.
+fn put_sign(out: &mut [u8], at: usize, b: u8, n: usize) -> usize
+    requires { ⌜ Shown (now out) at ⌝ }
+    ensures { λ r. ⌜ Shown (now (out .exit)) r ⌝ }
+{
+    match b {
+        b'\n' => end_line(out, at),
+        b'#' => put_number(out, at, n),
+        _ => put_byte(out, at, b),
+    }
+}
+
+// A page's own words: a line end ends the line, and `#` stands for the number.
+pub fn say(out: &mut [u8], at: usize, words: &[u8], n: usize) -> usize
+    requires { ⌜ Shown (now out) at ⌝ }
+    ensures { λ r. ⌜ Shown (now (out .exit)) r ⌝ }
+{
+    let mut end = at;
+    let mut i = 0;
+    while i < words.len() {
+        end = put_sign(out, end, words[i], n);
+        i += 1;
+    }
+    end
 }
 
 // The bytes from `from` up to `to` of a text, as far as it has them.

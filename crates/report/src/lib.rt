@@ -30,7 +30,7 @@ pub fn unreadable(name: &[u8], out: &mut [u8]) -> usize
     ensures { λ r. ⌜ Shown (now (out .exit)) r ⌝ }
 {
     let at = page::begin(out);
-    let end = page::put(out, at, b"explain: cannot read \"");
+    let end = page::say(out, at, b"explain: cannot read \"", 0);
     let end = page::put(out, end, name);
-    page::put(out, end, b"\"")
+    page::say(out, end, b"\"", 0)
 }

@@ -1,31 +1,30 @@
 // An accepted text in words: its form, its lists, its nodes and depth, and its canonical text.
+ghost use Prim.Native.Nat.{_≤_};
 ghost use Rattle.page.specs.Shown.{Shown};
+use crate::words::put_message;
 use cel_policy::Policy;
-use page::put;
-use page::put_line;
-use page::put_number;
+use page::say;
 use parser::Answer;
 
 // The most bytes of a string that are shown.
 const WIDE: usize = 72;
 
+// The lists, in the order of their titles.
+const REQUEST_HEADERS: u32 = 0;
+
+const QUERY_PARAMETERS: u32 = 1;
+
+const RESPONSE_INCLUSIONS: u32 = 2;
+
+const RESPONSE_EXCLUSIONS: u32 = 3;
+
 fn put_form(out: &mut [u8], at: usize, form: u32) -> usize
     requires { ⌜ Shown (now out) at ⌝ }
     ensures { λ r. ⌜ Shown (now (out .exit)) r ⌝ }
 {
-    match form {
-        cel_policy::SKIP => put_line(out, at, b"Accepted: Skip. Nothing is certified."),
-        cel_policy::RESPONSE_ONLY => put_line(
-            out,
-            at,
-            b"Accepted: ResponseOnly. The response is certified, the request is not.",
-        ),
-        _ => put_line(
-            out,
-            at,
-            b"Accepted: Full. The request and the response are certified.",
-        ),
-    }
+    let forms =
+        b"|Accepted: Skip. Nothing is certified.\n|Accepted: ResponseOnly. The response is certified, the request is not.\n|Accepted: Full. The request and the response are certified.\n";
+    put_message(out, at, forms, form, 0)
 }
 
 // A string in double quotes, on a line of its own; a long one is cut, and its length said.
@@ -36,15 +35,13 @@ fn put_string(out: &mut [u8], at: usize, text: &[u8], from: usize, to: usize) ->
     if to < from {
         return at;
     }
-    let end = put(out, at, b"        \"");
+    let end = say(out, at, b"        \"", 0);
     if to - from <= WIDE {
         let end = page::put_part(out, end, text, from, to);
-        return put_line(out, end, b"\"");
+        return say(out, end, b"\"\n", 0);
     }
     let end = page::put_part(out, end, text, from, from + WIDE);
-    let end = put(out, end, b"...\", ");
-    let end = put_number(out, end, to - from);
-    put_line(out, end, b" bytes")
+    say(out, end, b"...\", # bytes\n", to - from)
 }
 
 fn wide(word: u32) -> usize {
@@ -77,62 +74,35 @@ fn put_strings(
     end
 }
 
-// How many strings a list has, and the end of its line.
-fn put_count(out: &mut [u8], at: usize, count: usize) -> usize
-    requires { ⌜ Shown (now out) at ⌝ }
-    ensures { λ r. ⌜ Shown (now (out .exit)) r ⌝ }
-{
-    let end = put(out, at, b" (");
-    let end = put_number(out, end, count);
-    put_line(out, end, b"):")
-}
-
-// A list's title, by whether it has strings.
-fn put_title(out: &mut [u8], at: usize, count: usize, none: &[u8], some: &[u8]) -> usize
-    requires { ⌜ Shown (now out) at ⌝ }
-    ensures { λ r. ⌜ Shown (now (out .exit)) r ⌝ }
+// The title of a list: of these, two for each list, the second where it has strings.
+fn title(list: u32, count: usize) -> u32
+    requires { ⌜ list ≤ 3 ⌝ }
 {
     if count == 0 {
-        return put_line(out, at, none);
+        return 2 * list;
     }
-    let end = put(out, at, some);
-    put_count(out, end, count)
+    2 * list + 1
 }
 
-fn put_response_title(out: &mut [u8], at: usize, kind: u32, count: usize) -> usize
+// A list, its strings being those from string `first` up to string `last` of the span table.
+fn put_list(
+    out: &mut [u8],
+    at: usize,
+    list: u32,
+    text: &[u8],
+    spans: &[u32],
+    first: usize,
+    last: usize,
+) -> usize
     requires { ⌜ Shown (now out) at ⌝ }
+    requires { ⌜ (list ≤ 3) × (first ≤ last) ⌝ }
     ensures { λ r. ⌜ Shown (now (out .exit)) r ⌝ }
 {
-    if kind == cel_policy::EXCLUSIONS {
-        return put_title(
-            out,
-            at,
-            count,
-            b"    Certified response headers: all, the list of exclusions is empty.",
-            b"    Certified response headers: all except these",
-        );
-    }
-    put_title(
-        out,
-        at,
-        count,
-        b"    Certified response headers: none, the list is empty.",
-        b"    Certified response headers: only these",
-    )
-}
-
-fn put_request_headers(out: &mut [u8], at: usize, text: &[u8], spans: &[u32], count: usize) -> usize
-    requires { ⌜ Shown (now out) at ⌝ }
-    ensures { λ r. ⌜ Shown (now (out .exit)) r ⌝ }
-{
-    let end = put_title(
-        out,
-        at,
-        count,
-        b"    Certified request headers: none, the list is empty.",
-        b"    Certified request headers",
-    );
-    put_strings(out, end, text, spans, 0, count)
+    let titles =
+        b"    Certified request headers: none, the list is empty.\n|    Certified request headers (#):\n|    Certified query parameters: none, the list is empty.\n|    Certified query parameters (#):\n|    Certified response headers: none, the list is empty.\n|    Certified response headers: only these (#):\n|    Certified response headers: all, the list of exclusions is empty.\n|    Certified response headers: all except these (#):\n";
+    let count = last - first;
+    let end = put_message(out, at, titles, title(list, count), count);
+    put_strings(out, end, text, spans, first, last)
 }
 
 // The lists of the request, which only Full has.
@@ -141,19 +111,22 @@ fn put_request(out: &mut [u8], at: usize, policy: Policy, text: &[u8], spans: &[
     ensures { λ r. ⌜ Shown (now (out .exit)) r ⌝ }
 {
     let request = policy.request as usize;
-    let query = policy.query as usize;
+    let query = request + policy.query as usize;
     if policy.form != cel_policy::FULL {
         return at;
     }
-    let end = put_request_headers(out, at, text, spans, request);
-    let end = put_title(
-        out,
-        end,
-        query,
-        b"    Certified query parameters: none, the list is empty.",
-        b"    Certified query parameters",
-    );
-    put_strings(out, end, text, spans, request, request + query)
+    let end = put_list(out, at, REQUEST_HEADERS, text, spans, 0, request);
+    put_list(out, end, QUERY_PARAMETERS, text, spans, request, query)
+}
+
+// The list of response headers of this kind.
+fn response_list(kind: u32) -> u32
+    ensures { λ r. ⌜ r ≤ 3 ⌝ }
+{
+    if kind == cel_policy::EXCLUSIONS {
+        return RESPONSE_EXCLUSIONS;
+    }
+    RESPONSE_INCLUSIONS
 }
 
 // The lists, one after the other in the span table; Skip has none.
@@ -162,34 +135,29 @@ fn put_lists(out: &mut [u8], at: usize, policy: Policy, text: &[u8], spans: &[u3
     ensures { λ r. ⌜ Shown (now (out .exit)) r ⌝ }
 {
     let first = policy.request as usize + policy.query as usize;
-    let count = policy.response as usize;
+    let last = first + policy.response as usize;
     if policy.form == cel_policy::SKIP {
         return at;
     }
     let end = page::end_line(out, at);
     let end = put_request(out, end, policy, text, spans);
-    let end = put_response_title(out, end, policy.kind, count);
-    put_strings(out, end, text, spans, first, first + count)
+    put_list(
+        out,
+        end,
+        response_list(policy.kind),
+        text,
+        spans,
+        first,
+        last,
+    )
 }
 
 fn put_size(out: &mut [u8], at: usize, answer: Answer) -> usize
     requires { ⌜ Shown (now out) at ⌝ }
     ensures { λ r. ⌜ Shown (now (out .exit)) r ⌝ }
 {
-    let end = page::end_line(out, at);
-    let end = put_number(out, end, answer.nodes as usize);
-    let end = put(out, end, b" nodes, depth ");
-    let end = put_number(out, end, answer.depth as usize);
-    put(out, end, b". ")
-}
-
-fn put_unprintable(out: &mut [u8], at: usize, refusal: u32) -> usize
-    requires { ⌜ Shown (now out) at ⌝ }
-    ensures { λ r. ⌜ Shown (now (out .exit)) r ⌝ }
-{
-    let end = put(out, at, b"No canonical text (");
-    let end = put_number(out, end, refusal as usize);
-    put_line(out, end, b"): it would have more than 8192 bytes.")
+    let end = say(out, at, b"\n# nodes, depth ", answer.nodes as usize);
+    say(out, end, b"#. ", answer.depth as usize)
 }
 
 // The canonical text is not cut: it stands on the last line, to be copied from there.
@@ -197,10 +165,7 @@ fn put_printed(out: &mut [u8], at: usize, printed: &[u8], length: usize) -> usiz
     requires { ⌜ Shown (now out) at ⌝ }
     ensures { λ r. ⌜ Shown (now (out .exit)) r ⌝ }
 {
-    let end = put(out, at, b"Canonical text, ");
-    let end = put_number(out, end, length);
-    let end = put_line(out, end, b" bytes:");
-    let end = page::end_line(out, end);
+    let end = say(out, at, b"Canonical text, # bytes:\n\n", length);
     let end = page::put_part(out, end, printed, 0, length);
     page::end_line(out, end)
 }
@@ -213,7 +178,12 @@ fn put_canonical(out: &mut [u8], at: usize, policy: Policy, text: &[u8], spans: 
     let mut printed = [0u8; 8192];
     let print = create_cel_expr::print_policy(policy, text, spans, &mut printed);
     if print.refusal != 0 {
-        return put_unprintable(out, at, print.refusal);
+        return say(
+            out,
+            at,
+            b"No canonical text (#): it would have more than 8192 bytes.\n",
+            print.refusal as usize,
+        );
     }
     put_printed(out, at, &printed, print.length as usize)
 }

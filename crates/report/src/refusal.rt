@@ -7,36 +7,23 @@ use crate::words::put_found;
 use crate::words::put_message;
 use crate::words::put_name;
 use ast_mapping::name;
-use page::put;
-use page::put_line;
-use page::put_number;
+use page::say;
 use parser::Answer;
 use parser::Node;
 use parser::Place;
 
-fn put_head(out: &mut [u8], at: usize, refusal: u32) -> usize
-    requires { ⌜ Shown (now out) at ⌝ }
-    ensures { λ r. ⌜ Shown (now (out .exit)) r ⌝ }
-{
-    let end = put(out, at, b"Refused (");
-    let end = put_number(out, end, refusal as usize);
-    put(out, end, b"): ")
-}
-
-fn put_syntax(out: &mut [u8], at: usize, text: &[u8], place: Place) -> usize
-    requires { ⌜ Shown (now out) at ⌝ }
-    ensures { λ r. ⌜ Shown (now (out .exit)) r ⌝ }
-{
-    let i = place.0;
-    let messages =
-        b"|syntax. The text ends at byte #, where more must follow.|syntax. Byte 0 cannot begin an expression.|syntax. Byte # cannot follow what stands before it.";
-    if i == text.len() {
-        return put_message(out, at, messages, 1, i);
+// The message for one of refusals 1 to 6: the refusal's number, but for the syntax, which has three messages.
+fn message(refusal: u32, i: usize, length: usize) -> u32 {
+    if refusal != parser::SYNTAX {
+        return refusal;
+    }
+    if i == length {
+        return 7;
     }
     if i == 0 {
-        return put_message(out, at, messages, 2, i);
+        return 8;
     }
-    put_message(out, at, messages, 3, i)
+    parser::SYNTAX
 }
 
 // What refusals 1 to 6 mean.
@@ -44,12 +31,10 @@ fn put_reading(out: &mut [u8], at: usize, refusal: u32, text: &[u8], place: Plac
     requires { ⌜ Shown (now out) at ⌝ }
     ensures { λ r. ⌜ Shown (now (out .exit)) r ⌝ }
 {
-    if refusal == parser::SYNTAX {
-        return put_syntax(out, at, text, place);
-    }
+    let i = place.0;
     let messages =
-        b"|a table that was lent is too short.|too long. At most # bytes are allowed; what follows is not read.|not ASCII. Byte # is 128 or more.||too deep. Byte # opens a container at depth 33; at most 32 is allowed.|too many values. Byte # opens value 257; at most 256 are allowed.";
-    put_message(out, at, messages, refusal, place.0)
+        b"|a table that was lent is too short.\n|too long. At most # bytes are allowed; what follows is not read.\n|not ASCII. Byte # is 128 or more.\n|syntax. Byte # cannot follow what stands before it.\n|too deep. Byte # opens a container at depth 33; at most 32 is allowed.\n|too many values. Byte # opens value 257; at most 256 are allowed.\n|syntax. The text ends at byte #, where more must follow.\n|syntax. Byte 0 cannot begin an expression.\n";
+    put_message(out, at, messages, message(refusal, i, text.len()), i)
 }
 
 // What is expected instead.
@@ -59,44 +44,33 @@ fn put_instead(out: &mut [u8], at: usize, kind: u32, name: u32) -> usize
 {
     let end = put_expected(out, at, kind);
     let end = put_name(out, end, name);
-    put_line(out, end, b".")
+    say(out, end, b".\n", 0)
 }
 
-// A node of another kind or name: what it is.
-fn put_node(out: &mut [u8], at: usize, node: Node, found: u32) -> usize
+// A node of another kind or name: what it is, in what way it is wrong, and what it should be.
+fn put_wrong(
+    out: &mut [u8],
+    at: usize,
+    node: Node,
+    found: u32,
+    way: &[u8],
+    kind: u32,
+    name: u32,
+) -> usize
     requires { ⌜ Shown (now out) at ⌝ }
     ensures { λ r. ⌜ Shown (now (out .exit)) r ⌝ }
 {
-    let end = put(out, at, b"node ");
-    let end = put_number(out, end, node.0);
-    let end = put(out, end, b" is ");
-    put_found(out, end, found)
-}
-
-fn put_wrong_kind(out: &mut [u8], at: usize, node: Node, found: u32, kind: u32, name: u32) -> usize
-    requires { ⌜ Shown (now out) at ⌝ }
-    ensures { λ r. ⌜ Shown (now (out .exit)) r ⌝ }
-{
-    let end = put_node(out, at, node, found);
-    let end = put_line(out, end, b".");
+    let end = say(out, at, b"node # is ", node.0);
+    let end = put_found(out, end, found);
+    let end = say(out, end, way, 0);
     put_instead(out, end, kind, name)
-}
-
-fn put_wrong_name(out: &mut [u8], at: usize, node: Node, found: u32, name: u32) -> usize
-    requires { ⌜ Shown (now out) at ⌝ }
-    ensures { λ r. ⌜ Shown (now (out .exit)) r ⌝ }
-{
-    let end = put_node(out, at, node, found);
-    let end = put_line(out, end, b" with another name.");
-    put_instead(out, end, found, name)
 }
 
 fn put_no_argument(out: &mut [u8], at: usize, name: u32) -> usize
     requires { ⌜ Shown (now out) at ⌝ }
     ensures { λ r. ⌜ Shown (now (out .exit)) r ⌝ }
 {
-    let end = put_name(out, at, name::DEFAULT_CERTIFICATION);
-    let end = put_line(out, end, b" has no argument.");
+    let end = say(out, at, b"default_certification has no argument.\n", 0);
     put_instead(out, end, parser::OBJECT, name)
 }
 
@@ -113,32 +87,20 @@ fn put_no_property(out: &mut [u8], at: usize, name: u32) -> usize
     ensures { λ r. ⌜ Shown (now (out .exit)) r ⌝ }
 {
     let end = put_name(out, at, owner(name));
-    let end = put(out, end, b" lacks the property ");
+    let end = say(out, end, b" lacks the property ", 0);
     let end = put_name(out, end, name);
-    put_line(out, end, b".")
+    say(out, end, b".\n", 0)
 }
 
-// The object that must have exactly one of two properties, where it has both or neither.
-fn chooser(refusal: u32) -> u32 {
-    match refusal {
-        11..=12 => name::VALIDATION_ARGS,
-        13..=14 => name::CERTIFICATION_OBJECT,
-        _ => name::RESPONSE_CERTIFICATION_OBJECT,
-    }
-}
-
-// What is wrong with two properties: refusals 11 to 16. A list object without headers counts as absent, so of the lists the headers are
-// spoken of.
+// What is wrong with two properties of which an object must have exactly one: refusals 11 to 16. A list object without headers counts as
+// absent, so of the lists the headers are spoken of.
 fn put_choice(out: &mut [u8], at: usize, refusal: u32) -> usize
     requires { ⌜ Shown (now out) at ⌝ }
     ensures { λ r. ⌜ Shown (now (out .exit)) r ⌝ }
 {
     let messages =
-        b"|both no_certification and certification are given.|neither no_certification nor certification is given.|both no_request_certification and request_certification are given.|neither no_request_certification nor request_certification is given.|both certified_response_headers and response_header_exclusions give headers.|neither certified_response_headers nor response_header_exclusions gives headers.";
-    let end = put_message(out, at, messages, refusal % 10, 0);
-    let end = put(out, end, b"Expected exactly one of them in ");
-    let end = put_name(out, end, chooser(refusal));
-    put_line(out, end, b".")
+        b"|both no_certification and certification are given.\nExpected exactly one of them in ValidationArgs.\n|neither no_certification nor certification is given.\nExpected exactly one of them in ValidationArgs.\n|both no_request_certification and request_certification are given.\nExpected exactly one of them in Certification.\n|neither no_request_certification nor request_certification is given.\nExpected exactly one of them in Certification.\n|both certified_response_headers and response_header_exclusions give headers.\nExpected exactly one of them in ResponseCertification.\n|neither certified_response_headers nor response_header_exclusions gives headers.\nExpected exactly one of them in ResponseCertification.\n";
+    put_message(out, at, messages, refusal % 10, 0)
 }
 
 // What refusals 7 to 16 mean.
@@ -149,8 +111,8 @@ fn put_mapping(out: &mut [u8], at: usize, answer: Answer, node: Node, found: u32
     let refusal = answer.refusal;
     let name = answer.name;
     match refusal {
-        7 => put_wrong_kind(out, at, node, found, answer.kind, name),
-        8 => put_wrong_name(out, at, node, found, name),
+        7 => put_wrong(out, at, node, found, b".\n", answer.kind, name),
+        8 => put_wrong(out, at, node, found, b" with another name.\n", found, name),
         9 => put_no_argument(out, at, name),
         10 => put_no_property(out, at, name),
         _ => put_choice(out, at, refusal),
@@ -167,7 +129,7 @@ pub(crate) fn put_refusal(
     requires { ⌜ Shown (now out) at ⌝ }
     ensures { λ r. ⌜ Shown (now (out .exit)) r ⌝ }
 {
-    let end = put_head(out, at, answer.refusal);
+    let end = say(out, at, b"Refused (#): ", answer.refusal as usize);
     let number = answer.place as usize;
     if answer.refusal <= parser::TOO_MANY {
         let place = window::within(text, number);

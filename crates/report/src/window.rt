@@ -2,8 +2,7 @@
 ghost use Prim.Native.Nat.{_≤_, _<_, _+_, _^_};
 ghost use lib.ListN.{length};
 ghost use Rattle.page.specs.Shown.{Shown};
-use page::put;
-use page::put_number;
+use page::say;
 use parser::Node;
 use parser::Place;
 
@@ -73,15 +72,15 @@ fn forth(text: &[u8], place: Place, room: usize) -> Side
     Side { at, columns }
 }
 
-// What stands in the margin.
+// The beginning of the text's line: the margin.
 fn put_margin(out: &mut [u8], at: usize, from: usize) -> usize
     requires { ⌜ Shown (now out) at ⌝ }
     ensures { λ r. ⌜ Shown (now (out .exit)) r ⌝ }
 {
     if from == 0 {
-        return put(out, at, b"    ");
+        return say(out, at, b"\n    ", 0);
     }
-    put(out, at, b"... ")
+    say(out, at, b"\n... ", 0)
 }
 
 // The end of the text's line, with a mark where the text goes on.
@@ -90,7 +89,7 @@ fn put_end(out: &mut [u8], at: usize, more: bool) -> usize
     ensures { λ r. ⌜ Shown (now (out .exit)) r ⌝ }
 {
     if more {
-        return page::put_line(out, at, b" ...");
+        return say(out, at, b" ...\n", 0);
     }
     page::end_line(out, at)
 }
@@ -133,11 +132,8 @@ fn put_spot(out: &mut [u8], at: usize, spot: Spot) -> usize
     if spot.line == 1 {
         return at;
     }
-    let end = put(out, at, b"    Line ");
-    let end = put_number(out, end, spot.line);
-    let end = put(out, end, b", column ");
-    let end = put_number(out, end, spot.column);
-    page::put_line(out, end, b".")
+    let end = say(out, at, b"    Line #, column ", spot.line);
+    say(out, end, b"#.\n", spot.column)
 }
 
 fn put_place(out: &mut [u8], at: usize, text: &[u8], place: Place) -> usize
@@ -145,9 +141,7 @@ fn put_place(out: &mut [u8], at: usize, text: &[u8], place: Place) -> usize
     requires { ⌜ place .0 ≤ length (now text) ⌝ }
     ensures { λ r. ⌜ Shown (now (out .exit)) r ⌝ }
 {
-    let end = put(out, at, b"byte ");
-    let end = put_number(out, end, place.0);
-    let end = page::end_line(out, end);
+    let end = say(out, at, b"byte #\n", place.0);
     put_spot(out, end, spot_of(text, place))
 }
 
@@ -160,12 +154,11 @@ fn put_caret(out: &mut [u8], at: usize, text: &[u8], place: Place) -> usize
     let near = back(text, place, HALF);
     let last = forth(text, place, WIDE - near.columns);
     let first = back(text, place, WIDE - last.columns);
-    let end = page::end_line(out, at);
-    let end = put_margin(out, end, first.at);
+    let end = put_margin(out, at, first.at);
     let end = page::put_part(out, end, text, first.at, last.at);
     let end = put_end(out, end, last.at < text.len());
     let end = page::put_spaces(out, end, MARGIN + first.columns);
-    put(out, end, b"^ ")
+    say(out, end, b"^ ", 0)
 }
 
 // The part around a byte.
@@ -191,8 +184,6 @@ pub(crate) fn put_node_place(
     ensures { λ r. ⌜ Shown (now (out .exit)) r ⌝ }
 {
     let end = put_caret(out, at, text, place);
-    let end = put(out, end, b"node ");
-    let end = put_number(out, end, node.0);
-    let end = put(out, end, b", ");
+    let end = say(out, end, b"node #, ", node.0);
     put_place(out, end, text, place)
 }
