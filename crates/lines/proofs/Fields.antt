@@ -1,4 +1,4 @@
--- One pair of digits, one decimal digit more. Assumes nothing.
+-- One pair of digits, one decimal digit, one part of a line more. Assumes nothing.
 use mathlib.Core.Path.{_≡_, refl, sym, ap, _∙_}
 use Prim.Native.Nat.{ℕ, zero, suc, _+_, _-_, _*_, _/_, _≤_, _<_, min}
 use native.Mathlib.Numerals.{add-one}

@@ -1,4 +1,4 @@
--- The fields of a line: hexadecimal digits and decimal numbers. Assumes nothing.
+-- The fields of a line, hexadecimal digits and decimal numbers, and where its parts begin. Assumes nothing.
 use Prim.Native.Nat.{ℕ, zero, suc, _+_, _-_, _*_, _/_, _≤_, min}
 use mathlib.Core.Bool.{Bool, cond, _&&_}
 use mathlib.Core.List.{List, [], _∷_, _++_}

@@ -1,4 +1,4 @@
-// The fields of a line: bytes in hex, and decimal numbers.
+// The fields of a line, bytes in hex and decimal numbers, and where its parts begin.
 ghost use mathlib.Core.Path.{_≡_};
 ghost use Prim.Native.Nat.{_≤_};
 ghost use lib.ListN.{length};

@@ -1,4 +1,4 @@
-// Lines of standard input, their fields, and the fields of an answer, for programs that tests run.
+// Lines of standard input, the fields and parts of a line, and the fields of an answer, for the programs.
 mod field;
 mod input;
 mod write;

@@ -74,7 +74,7 @@ fn put_strings(
     end
 }
 
-// The title of a list: of these, two for each list, the second where it has strings.
+// Which title a list has: there are two for each, the second for a list that has strings.
 fn title(list: u32, count: usize) -> u32
     requires { ⌜ list ≤ 3 ⌝ }
 {

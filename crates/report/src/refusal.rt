@@ -12,18 +12,23 @@ use parser::Answer;
 use parser::Node;
 use parser::Place;
 
-// The message for one of refusals 1 to 6: the refusal's number, but for the syntax, which has three messages.
+// Two more messages of the syntax, after those of refusals 1 to 6: at the text's end, and at its first byte.
+const AT_THE_END: u32 = 7;
+
+const AT_THE_START: u32 = 8;
+
+// The message for one of refusals 1 to 6, at a place of a text of this length.
 fn message(refusal: u32, i: usize, length: usize) -> u32 {
     if refusal != parser::SYNTAX {
         return refusal;
     }
     if i == length {
-        return 7;
+        return AT_THE_END;
     }
     if i == 0 {
-        return 8;
+        return AT_THE_START;
     }
-    parser::SYNTAX
+    refusal
 }
 
 // What refusals 1 to 6 mean.
