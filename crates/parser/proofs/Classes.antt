@@ -8,11 +8,11 @@ use mathlib.Core.Logic.{⊎-elim}
 use lib.Dec.{eqb, leb}
 use lib.Bits.{bitOr}
 use Rattle.cel_text.specs.Byte.{blank, alphanumeric, identByte, stringByte}
-use Rattle.parser.specs.Run.{space, letter, digit}
+use Rattle.parser.specs.Run.{letter, digit}
 
-pub space-blank : (b : ℕ) → space b ≡ true → blank b ≡ true
+pub space-blank : blank 32 ≡ true
 unfolding blank
-space-blank b h = rw h
+space-blank = refl
 
 -- letters and digits are what both classes share
 module _ (b : ℕ) where

@@ -1,5 +1,6 @@
 -- Lemmas that the proofs of several functions cite.
 mod Classes
+mod Eights
 pub mod Runs
 mod Machine
 pub mod Rows

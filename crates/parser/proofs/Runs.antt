@@ -3,14 +3,15 @@ use mathlib.Core.Path.{_≡_, refl, sym, ap, subst, _∙_}
 use Prim.Native.Nat.{ℕ, zero, suc, _+_, _-_, _≤_, _<_}
 use native.Mathlib.Nat.{add-zero, zero-add, sub-zero, zero-sub, suc-sub-suc}
 use native.Mathlib.Omega.{arith}
-use mathlib.Core.Bool.{Bool, true, false}
+use mathlib.Core.Bool.{Bool, true, false, not}
 use mathlib.Core.List.{[], _∷_}
 use lib.ListN.{length, take, drop, getD, drop-of-length-le, length-drop}
 use lib.Seq.{drop-cons, drop-drop, getD-drop, slice, take-nil}
-use lib.Dec.{T}
+use lib.Dec.{T, ltb, ltb→lt, nltb→le}
 use borrow.Author.Tests.{lt-ltb}
-use Rattle.cel_text.specs.Byte.{Text, lead, ascii}
-use Rattle.parser.specs.Run.{endOf}
+use Rattle.cel_text.specs.Byte.{Text, lead, blank, ascii}
+use Rattle.parser.specs.Run.{endOf, Spaces}
+use Rattle.parser.proofs.Classes.{space-blank}
 
 -- a test is true or false
 pub decide : {P : Type 0} (b : Bool) → (b ≡ true → P) → (b ≡ false → P) → P
@@ -50,24 +51,39 @@ module _ (f : ℕ → Bool) where
     pub end-other : f 0 ≡ false → (p : ℕ) → f (getD x (endOf f x p) 0) ≡ false
     end-other z p = rw (getD-drop p x (lead f (drop p x)) 0) at (lead-other z (drop p x))
 
+    -- past bytes of the class the run goes on
+    pub end-past : (n p : ℕ) → p + n ≤ length x → ((i : ℕ) → p ≤ i → i < p + n → f (getD x i 0) ≡ true) → endOf f x p ≡ endOf f x (p + n)
+    end-past zero p h t = rw add-zero
+    end-past (suc n) p h t =
+        let same : suc p + n ≡ p + suc n = omega arith in
+        end-more p (omega arith) (t p (omega arith) (omega arith)) ∙ end-past n (suc p) (omega arith) (λ i a b. t i (omega arith) (omega arith)) ∙ ap (endOf f x) same
+
     pub end-later : (p : ℕ) → p ≤ endOf f x p
     end-later p = omega arith
 
     pub end-within : (p : ℕ) → p ≤ length x → endOf f x p ≤ length x
     end-within p h = omega (arith, lead-within (drop p x), length-drop p x)
 
--- past a run of a smaller class the run goes on
-module _ (f g : ℕ → Bool) (inside : (b : ℕ) → g b ≡ true → f b ≡ true) where
-  lead-inside : (x : Text) → lead g x + lead f (drop (lead g x) x) ≡ lead f x
-  lead-inside [] = refl
-  lead-inside (b ∷ bs) = decide (g b) (λ t. rw (t, inside b t) (omega (arith, lead-inside bs))) (λ t. rw t (zero-add (lead f (b ∷ bs))))
+-- spaces after one another
+module _ (x : Text) where
+  pub spaces-none : {p : ℕ} → p ≤ length x → Spaces x p p
+  spaces-none h = (omega arith, h, λ i a b. absurd (omega (arith, a, b)))
 
-  pub end-inside : (x : Text) (p : ℕ) → endOf f x (endOf g x p) ≡ endOf f x p
-  end-inside x p =
-      let q : ℕ = lead g (drop p x) in
-      let rest : drop (p + q) x ≡ drop q (drop p x) = sym (drop-drop q p x) in
-      let all : q + lead f (drop q (drop p x)) ≡ lead f (drop p x) = lead-inside (drop p x) in
-      rw rest (omega (arith, all))
+  pub spaces-more : {p q r : ℕ} → Spaces x p q → Spaces x q r → Spaces x p r
+  spaces-more {q = q} s t = (
+    omega (arith, s .0, t .0),
+    t .1,
+    λ i a b. decide (ltb i q) (λ l. s .2 i a (ltb→lt i q (subst T (sym l) tt))) (λ l. t .2 i (nltb→le i q (subst (λ (y : Bool). T (not y)) (sym l) tt)) b),
+  )
+
+  pub spaces-eight : {p n : ℕ} → Spaces x p (p + n) → n ≤ 8 → 8 ≤ n → Spaces x p (p + 8)
+  spaces-eight {p = p} s h k = subst (λ (m : ℕ). Spaces x p (p + m)) (omega arith) s
+
+  -- a run of blanks goes on past them
+  pub end-spaces : {p q : ℕ} → Spaces x p q → endOf blank x p ≡ endOf blank x q
+  end-spaces {p = p} {q = q} s =
+      let same : p + (q - p) ≡ q = omega (arith, s .0) in
+      end-past blank x (q - p) p (omega (arith, s .0, s .1)) (λ i a b. ap blank (s .2 i a (omega (arith, b, s .0))) ∙ space-blank) ∙ ap (endOf blank x) same
 
 -- a byte that is not 0 stands within the text
 pub byte-within : (x : Text) (p : ℕ) → (getD x p 0 ≡ 0 → ⊥) → p < length x

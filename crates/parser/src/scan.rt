@@ -1,15 +1,17 @@
 // Bytes of the text, one at a time and by runs of a class.
 ghost use mathlib.Core.Path.{_≡_};
-ghost use Prim.Native.Nat.{ℕ, _≤_, _<_, max};
+ghost use Prim.Native.Nat.{ℕ, _+_, _*_, _^_, _≤_, _<_, max};
 ghost use lib.ListN.{length, getD};
 ghost use Rattle.cel_text.specs.Byte.{blank, identByte, stringByte, ascii};
-ghost use Rattle.parser.specs.Run.{classOf, endOf, NamedAt, letter, digit};
+ghost use Rattle.parser.specs.Run.{classOf, endOf, numberAt, BytesAt, Spaces, NamedAt, letter, digit};
 use crate::Place;
+
+// Eight spaces as one number.
+const EIGHT_SPACES: u64 = 0x2020202020202020;
 
 // The classes of bytes that runs are made of.
 pub enum Class {
     Blank,
-    Space,
     Ident,
     Content,
     Ascii,
@@ -40,7 +42,7 @@ pub fn run_of(text: &[u8], at: Place, class: Class) -> Place
     }
 }
 
-// The same for blanks. Most of them are spaces, many in a row, and a run of those takes one comparison for each.
+// The same for blanks. Most of them are spaces, many in a row, and those are passed eight at a time.
 fn blanks(text: &[u8], at: Place) -> Place
     ensures { λ r. ⌜ r .0 ≡ endOf blank (now (text .entry)) (at .0) ⌝ }
 {
@@ -49,10 +51,59 @@ fn blanks(text: &[u8], at: Place) -> Place
         if !is_blank(text[i]) {
             return Place(i);
         }
-        let next = run(text, Place(i + 1), Class::Space);
+        let next = spaces(text, Place(i + 1));
         i = next.0;
     }
     Place(i)
+}
+
+// A place up to which there are spaces, as far on as whole eights of bytes tell.
+fn spaces(text: &[u8], at: Place) -> Place
+    requires { ⌜ at .0 ≤ length (now text) ⌝ }
+    ensures { λ r. ⌜ Spaces (now (text .entry)) (at .0) (r .0) ⌝ }
+{
+    let mut i = at.0;
+    while text.len() - i >= 8 {
+        let n = spaces_of_eight(text, i);
+        if n < 8 {
+            return Place(i + n as usize);
+        }
+        i += 8;
+    }
+    Place(i)
+}
+
+// How many spaces the eight bytes from here on begin with: less spaces, byte by byte, they begin with as many bytes of 0.
+fn spaces_of_eight(text: &[u8], i: usize) -> u32
+    requires { ⌜ i + 8 ≤ length (now text) ⌝ }
+    ensures { λ r. ⌜ Spaces (now (text .entry)) i (i + r) × (r ≤ 8) ⌝ }
+{
+    let rest = std::num::wrapping_sub_u64(eight(text, i), EIGHT_SPACES);
+    u64::trailing_zeros(rest) / 8
+}
+
+// The eight bytes from here on as one number, the first the lowest: one load.
+fn eight(text: &[u8], i: usize) -> u64
+    requires { ⌜ i + 8 ≤ length (now text) ⌝ }
+    ensures { λ r. ⌜ r ≡ numberAt (now (text .entry)) i 8 0 ⌝ }
+    ensures { λ r. ⌜ BytesAt (now (text .entry)) i 8 0 ⌝ }
+{
+    let high = joined(
+        text[i + 4],
+        joined(text[i + 5], joined(text[i + 6], joined(text[i + 7], 0))),
+    );
+    joined(
+        text[i],
+        joined(text[i + 1], joined(text[i + 2], joined(text[i + 3], high))),
+    )
+}
+
+// A byte below a number.
+fn joined(b: u8, above: u64) -> u64
+    requires { ⌜ above < 2 ^ 56 ⌝ }
+    ensures { λ r. ⌜ (r ≡ b + 256 * above) × (b < 256) ⌝ }
+{
+    b as u64 + 256 * above
 }
 
 // The same, byte by byte.
@@ -113,7 +164,6 @@ fn has(class: Class, b: u8) -> bool
 {
     match class {
         Class::Blank => is_blank(b),
-        Class::Space => b == b' ',
         Class::Ident => is_ident(b),
         Class::Content => is_content(b),
         Class::Ascii => b < 128,

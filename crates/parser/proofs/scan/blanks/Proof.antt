@@ -1,14 +1,13 @@
 -- `scan::blanks` meets its contract: the run from `at` ends where the run from i does, for each place i passed. Assumes nothing.
-use mathlib.Core.Path.{_≡_, refl, sym, _∙_}
+use mathlib.Core.Path.{_≡_, refl, sym, ap, _∙_}
 use Prim.Native.Nat.{suc, _+_, _-_}
 use native.Mathlib.Numerals.{add-one}
 use borrow.Author.Tests.{not-true, not-false}
 use lib.ListN.{length}
 use native.Mathlib.Omega.{arith}
 use Rattle.cel_text.specs.Byte.{blank}
-use Rattle.parser.specs.Run.{space, endOf}
-use Rattle.parser.proofs.Runs.{end-none, end-stop, end-more, end-later, end-inside}
-use Rattle.parser.proofs.Classes.{space-blank}
+use Rattle.parser.specs.Run.{endOf}
+use Rattle.parser.proofs.Runs.{end-none, end-stop, end-more, end-spaces}
 use Rattle.parser.proofs.scan.blanks.Statement.{statement}
 use Rattle.parser.proofs.scan.blanks.Tie as tie
 
@@ -33,18 +32,18 @@ returns c = sym (c .before .before .before .before .loop .inv ∙ end-stop blank
 add-t5 : tie.Need-add-t5 Inv-loop μ-loop
 add-t5 c = omega arith
 
-run-requires : tie.Need-run-requires Inv-loop μ-loop
-run-requires c κs = tt
+spaces-requires : tie.Need-spaces-requires Inv-loop μ-loop
+spaces-requires c κs = omega arith
 
 loop-less : tie.Need-loop-less Inv-loop μ-loop
-loop-less c = omega (arith, c .run .ensures, end-later space (c .before .before .before .before .before .before .before .args .text .now) (c .before .before .before .before .before .loop .i + 1))
+loop-less c = omega (arith, c .spaces .ensures .0)
 
 loop-again : tie.Need-loop-again Inv-loop μ-loop
 loop-again c =
     let x = c .before .before .before .before .before .before .before .args .text .now in
     let i = c .before .before .before .before .before .loop .i in
     c .before .before .before .before .before .loop .inv ∙ end-more blank x i (c .before .before .before .before .loop-test .taken) (sym (c .before .before .is-blank .ensures) ∙ not-false _ (c .before .if1 .left))
-    ∙ sym (rw (c .run .ensures, add-one i) (end-inside blank space space-blank x (suc i)))
+    ∙ ap (endOf blank x) (sym (add-one i)) ∙ end-spaces x (c .spaces .ensures)
 
 returns-2 : tie.Need-returns-2 Inv-loop μ-loop
 returns-2 c = sym (c .before .loop .inv ∙ end-none blank (c .before .before .before .args .text .now) (c .before .loop .i) (c .loop-test .left))
@@ -60,7 +59,7 @@ blanks-spec =
     is-blank-requires
     returns
     add-t5
-    run-requires
+    spaces-requires
     loop-less
     loop-again
     returns-2)

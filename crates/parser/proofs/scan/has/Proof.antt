@@ -13,37 +13,31 @@ is-blank-requires c κs = search needs
 enum-told-2 : tie.Need-enum-told-2
 enum-told-2 c = search needs
 
-enum-told-3 : tie.Need-enum-told-3
-enum-told-3 c = search needs
-
 is-ident-requires : tie.Need-is-ident-requires
 is-ident-requires c κs = search needs
 
-enum-told-4 : tie.Need-enum-told-4
-enum-told-4 c = search needs
+enum-told-3 : tie.Need-enum-told-3
+enum-told-3 c = search needs
 
 is-content-requires : tie.Need-is-content-requires
 is-content-requires c κs = search needs
 
-enum-told-5 : tie.Need-enum-told-5
-enum-told-5 c = search needs
+enum-told-4 : tie.Need-enum-told-4
+enum-told-4 c = search needs
 
 returns : tie.Need-returns
 returns c = rw (c .before .enum-told .given .1) (c .is-blank .ensures)
 
 returns-2 : tie.Need-returns-2
-returns-2 c = rw (c .enum-told2 .given .1)
+returns-2 c = rw (c .before .enum-told2 .given .1) (c .is-ident .ensures)
 
 returns-3 : tie.Need-returns-3
-returns-3 c = rw (c .before .enum-told3 .given .1) (c .is-ident .ensures)
+returns-3 c = rw (c .before .enum-told3 .given .1) (c .is-content .ensures)
 
 returns-4 : tie.Need-returns-4
-returns-4 c = rw (c .before .enum-told4 .given .1) (c .is-content .ensures)
-
-returns-5 : tie.Need-returns-5
 unfolding ascii
-returns-5 c =
-    rw (c .enum-told5 .given .1)
+returns-4 c =
+    rw (c .enum-told4 .given .1)
 
 pub has-spec : {M : Type 1} → statement M
-has-spec = tie.close (tie.spec enum-told is-blank-requires enum-told-2 enum-told-3 is-ident-requires enum-told-4 is-content-requires enum-told-5 returns returns-2 returns-3 returns-4 returns-5)
+has-spec = tie.close (tie.spec enum-told is-blank-requires enum-told-2 is-ident-requires enum-told-3 is-content-requires enum-told-4 returns returns-2 returns-3 returns-4)
