@@ -149,7 +149,13 @@ class Texts:
             return b"".join(tokens)
         if way == 2:
             return self.pick(BLANKS[3:]).join(tokens)
-        return b"".join([self.pick(BLANKS) + token for token in tokens])
+        return b"".join([self.blanks() + token for token in tokens])
+
+    def blanks(self):
+        """None, some, or those of a new line."""
+        if self.chance() < 0.9:
+            return self.pick(BLANKS)
+        return b"\n" + self.below(24) * b" "
 
     # ---- Kinds of texts ----
 
