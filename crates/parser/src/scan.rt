@@ -73,7 +73,7 @@ fn spaces(text: &[u8], at: Place) -> Place
     Place(i)
 }
 
-// How many spaces the eight bytes from here on begin with: less spaces, byte by byte, they begin with as many bytes of 0.
+// So many of the eight bytes from here on, the first ones, are spaces: with eight spaces taken off, as many bytes are 0.
 fn spaces_of_eight(text: &[u8], i: usize) -> u32
     requires { ⌜ i + 8 ≤ length (now text) ⌝ }
     ensures { λ r. ⌜ Spaces (now (text .entry)) i (i + r) × (r ≤ 8) ⌝ }
@@ -106,7 +106,7 @@ fn joined(b: u8, above: u64) -> u64
     b as u64 + 256 * above
 }
 
-// The same, byte by byte.
+// The end of a run of the other classes, byte by byte.
 fn run(text: &[u8], at: Place, class: Class) -> Place
     ensures { λ r. ⌜ r .0 ≡ endOf (classOf class) (now (text .entry)) (at .0) ⌝ }
 {
