@@ -12,12 +12,12 @@ use Rattle.cel_text.specs.Byte.{Text}
 use Rattle.parser.specs.Run.{numberAt, BytesAt, Spaces}
 
 -- n spaces as one number
-abbrev pub spacesAs : ℕ → ℕ
+abbrev spacesAs : ℕ → ℕ
 spacesAs zero = 0
 spacesAs (suc n) = 32 + 256 * spacesAs n
 
 -- a number is a multiple of 2 to the number of zeros at its end
-pub zeros-divide : (d n : ℕ) → (q : ℕ) × (n ≡ 2 ^ trailingZeros d n * q)
+zeros-divide : (d n : ℕ) → (q : ℕ) × (n ≡ 2 ^ trailingZeros d n * q)
 unfolding trailingZeros
 zeros-divide zero n = (n, omega arith)
 zeros-divide (suc d) n = go (n % 2) refl (zeros-divide d (n / 2))
@@ -55,20 +55,20 @@ power-part r t q h =
     ap (λ (k : ℕ). 2 ^ k * q) same ∙ ap (λ (k : ℕ). k * q) (pow-add 2 (8 * r) (t - 8 * r)) ∙ mul-assoc (2 ^ (8 * r)) (2 ^ (t - 8 * r)) q
 
 pub spaces-told :
-    (x : Text) (i n rest : ℕ) → i + 8 ≤ length x → BytesAt x i 8 0 → n ≡ numberAt x i 8 0 → (rest + 2314885530818453536) % 2 ^ 64 ≡ n
+    (x : Text) (i n rest : ℕ) → i + 8 ≤ length x → BytesAt x i 8 0 → n ≡ numberAt x i 8 0 → (rest + spacesAs 8) % 2 ^ 64 ≡ n
     → Spaces x i (i + trailingZeros 64 rest / 8) × (trailingZeros 64 rest / 8 ≤ 8)
 spaces-told x i n rest h b e w = go (trailingZeros 64 rest) (trailing-le 64 rest) (zeros-divide 64 rest)
   where
-    even : (a : ℕ) {c p q : ℕ} → 2 ^ 64 * a ≡ p → c ≡ q → rest ≡ c → rest + 2314885530818453536 ≡ 2 ^ 64 * a + n → n + p ≡ 2314885530818453536 + q
+    even : (a : ℕ) {c p q : ℕ} → 2 ^ 64 * a ≡ p → c ≡ q → rest ≡ c → rest + spacesAs 8 ≡ 2 ^ 64 * a + n → n + p ≡ spacesAs 8 + q
     even a P Q d m = omega arith
 
     go : (t : ℕ) → t ≤ 64 → (q : ℕ) × (rest ≡ 2 ^ t * q) → Spaces x i (i + t / 8) × (t / 8 ≤ 8)
     go t l (q, d) =
         let r : ℕ = t / 8 in
-        let o : ℕ = (rest + 2314885530818453536) / 2 ^ 64 in
+        let o : ℕ = (rest + spacesAs 8) / 2 ^ 64 in
         let P = power-part r 64 o (omega (arith, l)) in
         let Q = power-part r t q (omega (arith, l)) in
-        let whole : rest + 2314885530818453536 ≡ 2 ^ 64 * o + n = omega (arith, w) in
+        let whole : rest + spacesAs 8 ≡ 2 ^ 64 * o + n = omega (arith, w) in
         let low : numberAt x i 8 0 + 2 ^ (8 * r) * (2 ^ (64 - 8 * r) * o) ≡ spacesAs 8 + 2 ^ (8 * r) * (2 ^ (t - 8 * r) * q) =
         ap (λ (m : ℕ). m + 2 ^ (8 * r) * (2 ^ (64 - 8 * r) * o)) (sym e) ∙ even o P Q d whole in
         let most : r ≤ 8 = omega (arith, l) in
