@@ -1,6 +1,6 @@
 // A page of text for a person, whatever bytes it is about. `store` alone writes to the output; what is put is escaped where it is not
-// plain, and lines are ended by `end_line` alone, which `say` calls for its own words. So each function keeps `Shown`: every byte of the page is a line end or printable
-// ASCII. Each writes from the page's end on, as far as there is room, and answers the page's end then.
+// plain, and lines are ended by `end_line` alone, which `say` calls for a page's own words. So each function keeps `Shown`: every byte
+// of the page is a line end or printable ASCII. Each writes from the page's end on, as far as there is room, and answers the page's end then.
 ghost use Prim.Native.Nat.{_≤_, _<_};
 ghost use Rattle.page.specs.Shown.{Legible, Shown};
 
