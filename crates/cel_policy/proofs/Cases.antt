@@ -13,7 +13,7 @@ use Rattle.cel_policy.specs.Policy.{Counted, noPolicy}
 use Rattle.cel_policy.specs.Mapping.{typed, lookup, present, element, elements, stringArray, firstOf, firstChild, headersOf, listOf, responseLists, responsePart, listAt, requestLists, requestOf, requestPart, certificationParts, certificationOf, validationArgs, mapping}
 use Rattle.cel_policy.specs.Spans.{spanWords, spanTable}
 use Rattle.cel_policy.specs.Printed.{skipText, requestText, responseText, responseOnlyText, fullText, printed, shaped}
-use Rattle.cel_policy.specs.Answers.{PolicyAnswer, policyAnswer, policyNodes, policySpans, spanFits, bytesFit, sized, findPrint, PrintAnswer, printAnswer, printOutput}
+use Rattle.cel_policy.specs.Answers.{PolicyAnswer, policyAnswer, policyNodes, policySpans, spanFits, bytesFit, judgement, sized, findPrint, PrintAnswer, printAnswer, printOutput}
 
 -- what an answer is computed through: reading, mapping, printing
 reading : Unit {0}
@@ -25,7 +25,7 @@ unfolding spelling typed lookup present element elements stringArray firstOf fir
 mapped = tt
 
 printing : Unit {0}
-unfolding skipText requestText responseText responseOnlyText fullText printed shaped spanFits bytesFit sized findPrint printAnswer printOutput
+unfolding skipText requestText responseText responseOnlyText fullText printed shaped spanFits bytesFit judgement sized findPrint printAnswer printOutput
 printing = tt
 
 -- a table of words as it is left: the words, then zeros
@@ -218,8 +218,8 @@ askings =
     ∷ []
 
 askings-hold :
-    (map (λ (c : Asking). printAnswer (c .numbers) (c .spans) letters (c .room)) askings ≡ map (λ (c : Asking). c .answer) askings)
-    × (map (λ (c : Asking). printOutput (c .numbers) (c .spans) letters (replicate (c .room) 7)) askings
+    (map (λ (c : Asking). printAnswer stringByte (c .numbers) (c .spans) letters (c .room)) askings ≡ map (λ (c : Asking). c .answer) askings)
+    × (map (λ (c : Asking). printOutput stringByte (c .numbers) (c .spans) letters (replicate (c .room) 7)) askings
     ≡ map (λ (c : Asking). c .writes ++ replicate (c .room - length (c .writes)) 7) askings)
 unfolding askings reading printing
 askings-hold = (refl, refl)

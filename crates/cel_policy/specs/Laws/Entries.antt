@@ -85,7 +85,7 @@ sized-fits t r short room = rw (le-ltb maxText (length t) short, le-ltb r (lengt
 
 -- what print has written to the output
 abbrev pub writtenText : Counted → Words → Text → (out : Text) → Text
-writtenText k ws x out = take (printAnswer k ws x (length out) .length) (printOutput k ws x out)
+writtenText k ws x out = take (printAnswer stringByte k ws x (length out) .length) (printOutput stringByte k ws x out)
 
 -- y, which begins with the written text t, is answered with the numbers k and the nodes and depth of their policy; the span table that is left
 -- gives the strings that were printed; from it t is printed again
@@ -107,8 +107,8 @@ pub record Demand3 (k : Counted) (ws : Words) (x t y : Text) (nodes spans : Word
   pub sameStrings : strings y (placed k (policySpans y nodes spans)) ≡ strings x (placed k ws)
   pub sameAnswer :
       (r : ℕ) → length t ≤ r
-      → printAnswer k (policySpans y nodes spans) y r ≡ record { refusal = 0; name = 0; kind = 0; place = 0; length = length t }
-  pub sameBytes : (out : Text) → length t ≤ length out → printOutput k (policySpans y nodes spans) y out ≡ t ++ drop (length t) out
+      → printAnswer stringByte k (policySpans y nodes spans) y r ≡ record { refusal = 0; name = 0; kind = 0; place = 0; length = length t }
+  pub sameBytes : (out : Text) → length t ≤ length out → printOutput stringByte k (policySpans y nodes spans) y out ≡ t ++ drop (length t) out
 
 module _
     (k : Counted)
@@ -139,7 +139,7 @@ module _
 
     -- demand 3: print answered a length; its text, and any bytes below 128 after it, are within 8,192 in all
     pub demand-3 :
-        printAnswer k ws x (length out) .refusal ≡ 0 → length (writtenText k ws x out ++ tail) ≤ maxText
+        printAnswer stringByte k ws x (length out) .refusal ≡ 0 → length (writtenText k ws x out ++ tail) ≤ maxText
         → Demand3 k ws x (writtenText k ws x out) (writtenText k ws x out ++ tail) nodes spans
     unfolding printAnswer printOutput
     demand-3 = at (findPrint stringByte k ws x (length out)) refl (print-gives stringByte k ws x (length out))

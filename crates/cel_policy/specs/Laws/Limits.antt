@@ -57,7 +57,7 @@ print-one s h r =
 -- "ResponseOnly, one string of 7,986 bytes: prints 8,192"
 pub prints-8192 :
     (s : Text) → Run stringByte s → length s ≡ 7986 → (r : ℕ) → 8192 ≤ r
-    → printAnswer oneAsked (0 ∷ 7986 ∷ []) s r ≡ record { refusal = 0; name = 0; kind = 0; place = 0; length = 8192 }
+    → printAnswer stringByte oneAsked (0 ∷ 7986 ∷ []) s r ≡ record { refusal = 0; name = 0; kind = 0; place = 0; length = 8192 }
 unfolding printAnswer
 prints-8192 s h n r room =
     let long : length (printed (oneHeader s)) ≡ 8192 = length-oneHeader s ∙ omega arith in
@@ -66,7 +66,7 @@ prints-8192 s h n r room =
 -- "7,987: 23"
 pub refuses-8193 :
     (s : Text) → Run stringByte s → length s ≡ 7987 → (r : ℕ)
-    → printAnswer oneAsked (0 ∷ 7987 ∷ []) s r ≡ record { refusal = 23; name = 0; kind = 0; place = 0; length = 0 }
+    → printAnswer stringByte oneAsked (0 ∷ 7987 ∷ []) s r ≡ record { refusal = 23; name = 0; kind = 0; place = 0; length = 0 }
 unfolding printAnswer
 refuses-8193 s h n r = rw (sym n, print-one s h r, sized-long (printed (oneHeader s)) r (omega (arith, length-oneHeader s)))
 
@@ -120,7 +120,7 @@ module _ (s : Text) (h : Run stringByte s) (n : length s ≡ 7991) where
     -- "and refused with 23 on printing", from the span table that the read left
     pub refuses-8197 :
         (r : ℕ)
-        → printAnswer oneAsked (policySpans (shorterText s) nodes spans) (shorterText s) r
+        → printAnswer stringByte oneAsked (policySpans (shorterText s) nodes spans) (shorterText s) r
         ≡ record { refusal = 23; name = 0; kind = 0; place = 0; length = 0 }
     unfolding printAnswer policySpans
     refuses-8197 r =

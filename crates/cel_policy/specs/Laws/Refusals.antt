@@ -18,7 +18,7 @@ use Rattle.cel_policy.specs.Policy.{Span, Policy, Counted, stringCount, 
 use Rattle.cel_policy.specs.Mapping.{Node, Refusal, Mapped, good, bad, nodeOf, mapping}
 use Rattle.cel_policy.specs.Spans.{spanWords}
 use Rattle.cel_policy.specs.Printed.{printed, shaped}
-use Rattle.cel_policy.specs.Answers.{canonicalAnswer, oneNumber, refusalBase, placed, spanFits, bytesFit, firstFault, findCanonical, reprinted, FoundPolicy, policy, unmapped, unread, judged, mapTree, findPolicy, policyAnswered, policyAnswer, Printing, written, unprinted, unlessFaulty, sized, findPrint, printAnswered, printAnswer}
+use Rattle.cel_policy.specs.Answers.{canonicalAnswer, oneNumber, refusalBase, placed, spanFits, bytesFit, firstFault, findCanonical, reprinted, FoundPolicy, policy, unmapped, unread, judged, mapTree, findPolicy, policyAnswered, policyAnswer, Printing, written, unprinted, unlessFaulty, sized, findPrint, printAnswered, printAnswer, Judgement, clean, faulty, judgement, unlessJudged}
 use Rattle.cel_policy.specs.Laws.Counts.{between, OfMapping, meets-mapping}
 use Rattle.cel_policy.specs.Laws.Readable.{Readable, readable}
 use Rattle.cel_policy.specs.Laws.SpanTable.{print-read}
@@ -105,21 +105,35 @@ abbrev pub Gives : (ℕ → Type 0) → Printing → Type 0
 Gives P (written t) = length t ≤ maxText
 Gives P (unprinted r p) = P r
 
-unless-gives : (P : ℕ → Type 0) (r : ℕ) (o : Option ℕ) (next : Printing) → P r → Gives P next → Gives P (unlessFaulty r o next)
-unless-gives P r none next h k = k
-unless-gives P r (some i) next h k = h
-
 abbrev pub OfPrint : ℕ → Type 0
 OfPrint n = (20 ≤ n) × (n ≤ 24)
+
+-- judging: 20 to 22
+abbrev Finds : (ℕ → Type 0) → Judgement → Type 0
+Finds P clean = Unit {0}
+Finds P (faulty r p) = P r
+
+unless-finds : (P : ℕ → Type 0) (r : ℕ) (o : Option ℕ) (next : Judgement) → P r → Finds P next → Finds P (unlessFaulty r o next)
+unless-finds P r none next h k = k
+unless-finds P r (some i) next h k = h
+
+judgement-finds : (S : ℕ → Bool) (k : Counted) (ws : Words) (x : Text) → Finds OfPrint (judgement S k ws x)
+unfolding judgement
+judgement-finds S k ws x =
+    by-test (Finds OfPrint) (shaped k) _ _
+    (λ e. unless-finds OfPrint 21 (firstFault (spanFits ws x) (stringCount k) 0) _ (between tt tt)
+    (unless-finds OfPrint 22 (firstFault (bytesFit S ws x) (stringCount k) 0) _ (between tt tt) tt))
+    (λ e. between tt tt)
+
+judged-gives : (P : ℕ → Type 0) (j : Judgement) (next : Printing) → Finds P j → Gives P next → Gives P (unlessJudged j next)
+judged-gives P clean next h k = k
+judged-gives P (faulty r p) next h k = h
 
 pub print-gives : (S : ℕ → Bool) (k : Counted) (ws : Words) (x : Text) (r : ℕ) → Gives OfPrint (findPrint S k ws x r)
 unfolding findPrint
 print-gives S k ws x r =
-    by-test (Gives OfPrint) (shaped k) _ _
-    (λ e. unless-gives OfPrint 21 (firstFault (spanFits ws x) (stringCount k) 0) _ (between tt tt)
-    (unless-gives OfPrint 22 (firstFault (bytesFit S ws x) (stringCount k) 0) _ (between tt tt)
-    (sized-cases (Gives OfPrint) (printed (strings x (placed k ws))) r (between tt tt) (between tt tt) (λ h. h))))
-    (λ e. between tt tt)
+    judged-gives OfPrint (judgement S k ws x) _ (judgement-finds S k ws x)
+    (sized-cases (Gives OfPrint) (printed (strings x (placed k ws))) r (between tt tt) (between tt tt) (λ h. h))
 
 -- canonicalise: 1, 20, 21 and 22 are not among them
 abbrev pub OfCanonical : ℕ → Type 0
@@ -144,9 +158,9 @@ canonical-numbers x r n = at (findCanonical stringByte x r) (canonical-gives str
     at (written t) h e = absurd (omega arith)
     at (unprinted m p) h e = subst OfCanonical (omega arith) h
 
-print-numbers : (k : Counted) (ws : Words) (x : Text) (r n : ℕ) → 0 < n → printAnswer k ws x r .refusal ≡ n → OfPrint n
+print-numbers : (S : ℕ → Bool) (k : Counted) (ws : Words) (x : Text) (r n : ℕ) → 0 < n → printAnswer S k ws x r .refusal ≡ n → OfPrint n
 unfolding printAnswer
-print-numbers k ws x r n l = at (findPrint stringByte k ws x r) (print-gives stringByte k ws x r)
+print-numbers S k ws x r n l = at (findPrint S k ws x r) (print-gives S k ws x r)
   where
     at : (w : Printing) → Gives OfPrint w → printAnswered w .refusal ≡ n → OfPrint n
     at (written t) h e = absurd (omega arith)
@@ -167,7 +181,7 @@ canonical-never-20-to-22 x r n low high = canonical-never x r n (λ h. ⊎-elim 
 pub record Unseen (n : ℕ) : Type 0 where
   pub readTree : (w : ℕ) (x : Text) → treeAnswer w x .refusal ≡ n → ⊥
   pub readPolicy : (w v : ℕ) (x : Text) → policyAnswer w v x .answer .refusal ≡ n → ⊥
-  pub print : (k : Counted) (ws : Words) (x : Text) (r : ℕ) → printAnswer k ws x r .refusal ≡ n → ⊥
+  pub print : (S : ℕ → Bool) (k : Counted) (ws : Words) (x : Text) (r : ℕ) → printAnswer S k ws x r .refusal ≡ n → ⊥
   pub canonicalise : (x : Text) (r : ℕ) → canonicalAnswer x r ≡ refusalBase + n → ⊥
 
 pub unseen-17-18 : (n : ℕ) → 17 ≤ n → n ≤ 18 → Unseen n
@@ -175,6 +189,6 @@ unseen-17-18 n low high =
     record {
       readTree = λ w x e. omega (arith, tree-refusals w x);
       readPolicy = λ w v x e. omega (arith, policy-refusals w v x);
-      print = λ k ws x r e. let h = print-numbers k ws x r n (omega arith) e in omega arith;
+      print = λ S k ws x r e. let h = print-numbers S k ws x r n (omega arith) e in omega arith;
       canonicalise = λ x r. canonical-never x r n (λ h. ⊎-elim (λ a. omega arith) (λ a. omega arith) h);
     }
