@@ -43,7 +43,7 @@ accepted-by x w (tree t q) e s z =
       value = t;
       next = q;
       finds = e;
-      table = ap (λ (f : Found). nodesAfter f w) e;
+      table = ap (λ (f : Found). nodesAfter hold f w) e;
       counts = ap (λ (f : Found). answered f .nodes) e;
       deep = ap (λ (f : Found). answered f .depth) e;
     }

@@ -8,7 +8,7 @@ use mathlib.Core.List.{[], _++_, append-nil, append-assoc}
 use lib.ListN.{length, take, drop, replicate, length-replicate, drop-of-length-le, take-append-drop}
 use lib.Seq.{sets-eq, length-take-le, take-all}
 use lib.Dec.{ltb}
-use borrow.Author.Tests.{lt-ltb, le-ltb, ne-eqb, le-leb}
+use borrow.Author.Tests.{lt-ltb, le-ltb, ne-eqb, le-leb, lt-leb}
 use Rattle.cel_text.specs.Byte.{Text, ascii, lead, stringByte}
 use Rattle.cel_text.specs.Tree.{Tree, nodes, unkeyed}
 use Rattle.cel_text.specs.Reading.{Fault, syntax, tooDeep, tooMany, Outcome, accepted, refused, root, read, limits}
@@ -85,7 +85,10 @@ find-answer x w w′ (Refused r p) f =
     rw (f .finds, ne-eqb r 1 (λ e. omega (arith, f .low)), le-leb 2 r (omega (arith, f .low)), le-leb r 6 (f .high))
 
 left-cleared : (r : ℕ) → 1 < r → r ≤ 6 → nodesLeft r ≡ cleared
-left-cleared r h h′ = let some : r ≡ 1 → ⊥ = λ e. omega arith in rw (ne-eqb r 1 some, lt-ltb 1 r h, le-leb r 6 h′)
+left-cleared r h h′ =
+    let some : r ≡ 0 → ⊥ = λ e. omega arith in
+    let more : r ≡ 1 → ⊥ = λ e. omega arith in
+    rw (ne-eqb r 0 some, ne-eqb r 1 more, lt-leb 7 r (omega arith))
 
 stale-all : (r : ℕ) → 1 < r → r ≤ 6 → staleFrom r ≡ 0
 stale-all r h h′ = rw (le-leb 2 r h, le-leb r 6 h′)
@@ -93,9 +96,9 @@ stale-all r h h′ = rw (le-leb 2 r h, le-leb r 6 h′)
 drop-none : (w : Words) → length w ≡ nodeWords → drop nodeWords w ≡ []
 drop-none w h = let less : length w ≤ nodeWords = omega arith in drop-of-length-le w less
 
-table-found : (x : Text) (w : Words) (f : Found) → length w ≡ nodeWords → findTree stringByte nodeWords x ≡ f → treeTable x w ≡ nodesAfter f w
+table-found : (x : Text) (w : Words) (f : Found) → length w ≡ nodeWords → findTree stringByte nodeWords x ≡ f → treeTable x w ≡ nodesAfter hold f w
 unfolding treeTable
-table-found x w f h e = ap (λ (n : ℕ). nodesAfter (findTree stringByte n x) w) h ∙ ap (λ (g : Found). nodesAfter g w) e
+table-found x w f h e = ap (λ (n : ℕ). nodesAfter hold (findTree stringByte n x) w) h ∙ ap (λ (g : Found). nodesAfter hold g w) e
 
 -- the table w′, cleared from a place on
 abbrev pub clearedFrom : Words → ℕ → Words
@@ -133,7 +136,7 @@ module _ (x : Text) (w : Words) (z : w ≡ replicate nodeWords 0) where
 -- what a table of the counted words held before does not matter
 module _ (x : Text) (v w : Words) (hv : length v ≡ nodeWords) (hw : length w ≡ nodeWords) where
   abbrev Same : Found → Type 0
-  Same f = nodesAfter f v ≡ nodesAfter f w
+  Same f = nodesAfter hold f v ≡ nodesAfter hold f w
 
   same-outcome : (o : Outcome) → Same (found o)
   same-outcome (accepted t q) = rw (drop-none v hv, drop-none w hw)
@@ -162,7 +165,7 @@ hold-front untouched n ws w h = take-append-drop n w
 hold-front cleared n ws w h = rw (drop-front n w h, append-nil)
 hold-front filled n ws w h = rw (drop-front n w h, append-nil, append-assoc)
 
-after-front : (f : Found) (w : Words) → nodeWords ≤ length w → nodesAfter f (take nodeWords w) ++ drop nodeWords w ≡ nodesAfter f w
+after-front : (f : Found) (w : Words) → nodeWords ≤ length w → nodesAfter hold f (take nodeWords w) ++ drop nodeWords w ≡ nodesAfter hold f w
 after-front (tree t q) w h = hold-front (nodesLeft 0) nodeWords (rows t) w h
 after-front (fault r p) w h = hold-front (nodesLeft r) nodeWords [] w h
 
