@@ -14,10 +14,11 @@ use Rattle.cel_text.specs.Table.{Words, nodeWords}
 use Rattle.cel_text.specs.Answer.{maxText}
 use Rattle.cel_text.specs.Laws.Class.{stringByte-plain}
 use Rattle.cel_policy.specs.Policy.{Span, Policy, Counted, counted, strings}
+use Rattle.cel_policy.specs.Meaning.{ReadAs}
 use Rattle.cel_policy.specs.Spans.{spanWords, spanTable}
 use Rattle.cel_policy.specs.Printed.{printed, printedNodes, printedDepth, Proper}
 use Rattle.cel_policy.specs.Answers.{policy, findPolicy, policyAnswer, policySpans, placed, Printing, written, unprinted, sized, findPrint, printAnswered, output, printAnswer, printOutput}
-use Rattle.cel_policy.specs.Laws.RoundTrip.{ReadAs, round-trip}
+use Rattle.cel_policy.specs.Laws.RoundTrip.{round-trip}
 use Rattle.cel_policy.specs.Laws.Readable.{readable}
 use Rattle.cel_policy.specs.Laws.SpanTable.{counted-placed, placed-table, print-read, prints}
 use Rattle.cel_policy.specs.Laws.Refusals.{Gives, OfPrint, print-gives}
