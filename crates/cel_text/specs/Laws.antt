@@ -9,3 +9,4 @@ pub mod Move
 pub mod Place
 pub mod Limit
 pub mod Exact
+pub mod Find

@@ -13,6 +13,7 @@ use Rattle.cel_text.specs.Tree.{Tree, nodes, depth}
 use Rattle.cel_text.specs.Table.{Words, nodeWords}
 use Rattle.cel_text.specs.Answer.{maxText}
 use Rattle.cel_text.specs.Laws.Class.{stringByte-plain}
+use Rattle.cel_text.specs.Laws.Find.{find-passes}
 use Rattle.cel_policy.specs.Policy.{Span, Policy, Counted, counted, strings}
 use Rattle.cel_policy.specs.Meaning.{ReadAs}
 use Rattle.cel_policy.specs.Spans.{spanWords, spanTable}
@@ -29,7 +30,7 @@ pub find-read :
     (S : ℕ → Bool) {x : Text} {p : Policy Text} {q n d : ℕ} (r : ReadAs S x p q n d)
     → length x ≤ maxText → Run ascii x → (w v : ℕ) → nodeWords ≤ w → spanWords ≤ v → findPolicy S w v x ≡ policy (r .tree) (r .places)
 find-read S {x} r short low w v hw hv =
-    rw (le-ltb v spanWords hv, le-ltb w nodeWords hw, le-ltb maxText (length x) short, le-ltb (lead ascii x) (length x) (omega (arith, lead-run low)), r .reads, r .maps)
+    rw (le-ltb v spanWords hv, find-passes S w x (record { enough = hw; short = short; low = omega (arith, lead-run low) }), r .reads, r .maps)
 
 -- its numbers are the policy's
 pub counted-strings : (x : Text) (p : Policy Span) → counted (strings x p) ≡ counted p
