@@ -1,4 +1,4 @@
--- Which refusals each entry gives. Assumes nothing.
+-- Which refusals each entry gives, and how many nodes and what depth a read answers at most. Assumes nothing.
 use mathlib.Core.Path.{_≡_, refl, sym, subst}
 use mathlib.Core.Logic.{_⊎_, inl, inr, ⊎-elim}
 use Prim.Native.Nat.{ℕ, _+_, _≤_, _<_}
@@ -9,12 +9,12 @@ use lib.ListN.{length}
 use lib.Dec.{lit≤, ltb}
 use borrow.Author.Tests.{ltb-true, ltb-false}
 use Rattle.cel_text.specs.Byte.{Text, ascii, lead, stringByte}
-use Rattle.cel_text.specs.Tree.{Tree}
+use Rattle.cel_text.specs.Tree.{Tree, nodes, depth}
 use Rattle.cel_text.specs.Table.{Words, nodeWords}
-use Rattle.cel_text.specs.Reading.{Fault, syntax, tooDeep, tooMany, Outcome, accepted, refused, read, limits}
-use Rattle.cel_text.specs.Answer.{maxText, faultNumber, Found, fault, found, findTree, answered, treeAnswer}
+use Rattle.cel_text.specs.Reading.{Fault, syntax, tooDeep, tooMany, Outcome, accepted, refused, read, limits, maxDepth, maxNodes}
+use Rattle.cel_text.specs.Answer.{maxText, faultNumber, Found, tree, fault, found, findTree, answered, treeAnswer}
 use Rattle.cel_text.specs.Laws.Class.{by-test}
-use Rattle.cel_text.specs.Laws.Find.{FindsTree, too-short, too-long, not-ascii, broken, whole, finds}
+use Rattle.cel_text.specs.Laws.Find.{FindsTree, too-short, too-long, not-ascii, broken, whole, finds, answer-within}
 pub use Rattle.cel_text.specs.Laws.Find.{faultNumber-range}
 use Rattle.cel_policy.specs.Policy.{Span, Policy, Counted, stringCount, strings}
 use Rattle.cel_policy.specs.Mapping.{Node, Refusal, Mapped, good, bad, nodeOf, mapping}
@@ -172,3 +172,21 @@ unseen-17-18 n low high =
       print = λ k ws x r e. let h = print-numbers k ws x r n (omega arith) e in omega arith;
       canonicalise = λ x r. canonical-never x r n (λ h. ⊎-elim (λ a. omega arith) (λ a. omega arith) h);
     }
+
+-- ---- nodes and depth
+
+judged-sizes : (t : Tree) (m : Mapped (Policy Span)) → (policyAnswered (judged t m) .answer .nodes ≡ nodes t) × (policyAnswered (judged t m) .answer .depth ≡ depth t)
+judged-sizes t (good p) = (refl, refl)
+judged-sizes t (bad r) = (refl, refl)
+
+-- they are those of the tree, whether or not it is mapped
+sizes-found : (x : Text) (f : Found) → (policyAnswered (mapTree x f) .answer .nodes ≡ answered f .nodes) × (policyAnswered (mapTree x f) .answer .depth ≡ answered f .depth)
+sizes-found x (tree t q) = judged-sizes t (mapping (nodeOf x t 0))
+sizes-found x (fault r p) = (refl, refl)
+
+-- every answer is within the limits
+pub policy-within : (w v : ℕ) (x : Text) → (policyAnswer w v x .answer .nodes ≤ maxNodes) × (policyAnswer w v x .answer .depth ≤ maxDepth)
+unfolding policyAnswer treeAnswer
+policy-within w v x =
+    by-test (λ (f : FoundPolicy). (policyAnswered f .answer .nodes ≤ maxNodes) × (policyAnswered f .answer .depth ≤ maxDepth)) (ltb v spanWords) _ _
+    (λ a. omega arith) (λ a. omega (arith, answer-within w x, sizes-found x (findTree stringByte w x)))

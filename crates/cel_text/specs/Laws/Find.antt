@@ -6,12 +6,13 @@ use mathlib.Core.Bool.{Bool}
 use lib.ListN.{length}
 use lib.Dec.{ltb}
 use borrow.Author.Tests.{ltb-true, ltb-false, le-ltb}
-use Rattle.cel_text.specs.Byte.{Text, ascii, lead}
+use Rattle.cel_text.specs.Byte.{Text, ascii, lead, stringByte}
 use Rattle.cel_text.specs.Tree.{Tree}
 use Rattle.cel_text.specs.Table.{nodeWords}
-use Rattle.cel_text.specs.Reading.{Fault, syntax, tooDeep, tooMany, Outcome, accepted, refused, read, limits}
-use Rattle.cel_text.specs.Answer.{maxText, faultNumber, Found, tree, fault, found, findTree}
+use Rattle.cel_text.specs.Reading.{Fault, syntax, tooDeep, tooMany, Outcome, accepted, refused, read, limits, maxDepth, maxNodes}
+use Rattle.cel_text.specs.Answer.{maxText, faultNumber, Found, tree, fault, found, findTree, answered, treeAnswer}
 use Rattle.cel_text.specs.Laws.Class.{by-test}
+use Rattle.cel_text.specs.Laws.Sound.{within}
 use Rattle.cel_text.specs.Laws.Limit.{clash}
 
 -- a table of w words is long enough, the text is short enough, and each of its bytes is below 128: 1, 2 and 3 do not refuse
@@ -74,3 +75,15 @@ found-fault S w x {r} {p} = by (finds S w x)
     by (not-ascii a b c) e = at 3 (lead ascii x) (omega arith) e
     by (broken {f = f} {p = q} a h) e = at (faultNumber f) q (omega (arith, faultNumber-range f)) e
     by (whole a h) e = clash cc
+
+-- every answer is within the limits
+pub answer-within : (w : ℕ) (x : Text) → (treeAnswer w x .nodes ≤ maxNodes) × (treeAnswer w x .depth ≤ maxDepth)
+unfolding treeAnswer
+answer-within w x = by (finds stringByte w x)
+  where
+    by : {f : Found} → FindsTree stringByte w x f → (answered f .nodes ≤ maxNodes) × (answered f .depth ≤ maxDepth)
+    by (too-short h) = omega arith
+    by (too-long h l) = omega arith
+    by (not-ascii h l a) = omega arith
+    by (broken h e) = omega arith
+    by (whole {t = t} {q = q} h e) = let l = within stringByte x t q e in (l .1, l .0)
