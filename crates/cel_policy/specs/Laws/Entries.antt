@@ -8,7 +8,7 @@ use mathlib.Core.List.{_++_}
 use lib.ListN.{length, take, drop, replicate, length-map}
 use lib.Seq.{take-append-seam}
 use borrow.Author.Tests.{le-ltb}
-use Rattle.cel_text.specs.Byte.{Text, Run, Plain, ascii, lead, stringByte}
+use Rattle.cel_text.specs.Byte.{Text, Run, Plain, ascii, stringByte}
 use Rattle.cel_text.specs.Tree.{Tree, nodes, depth}
 use Rattle.cel_text.specs.Table.{Words, nodeWords}
 use Rattle.cel_text.specs.Answer.{maxText}

@@ -1,9 +1,9 @@
 -- Which refusals each entry gives, and how many nodes and what depth a read answers at most. Assumes nothing.
-use mathlib.Core.Path.{_≡_, refl, sym, subst}
+use mathlib.Core.Path.{_≡_, refl, subst}
 use mathlib.Core.Logic.{_⊎_, inl, inr, ⊎-elim}
 use Prim.Native.Nat.{ℕ, _+_, _≤_, _<_}
 use native.Mathlib.Omega.{arith}
-use mathlib.Core.Bool.{Bool, true, true≢false}
+use mathlib.Core.Bool.{Bool}
 use mathlib.Core.Option.{Option, none, some}
 use lib.ListN.{length}
 use lib.Dec.{lit≤, ltb}
@@ -11,8 +11,8 @@ use borrow.Author.Tests.{ltb-true, ltb-false}
 use Rattle.cel_text.specs.Byte.{Text, ascii, lead, stringByte}
 use Rattle.cel_text.specs.Tree.{Tree, nodes, depth}
 use Rattle.cel_text.specs.Table.{Words, nodeWords}
-use Rattle.cel_text.specs.Reading.{Fault, syntax, tooDeep, tooMany, Outcome, accepted, refused, read, limits, maxDepth, maxNodes}
-use Rattle.cel_text.specs.Answer.{maxText, faultNumber, Found, tree, fault, found, findTree, answered, treeAnswer}
+use Rattle.cel_text.specs.Reading.{Fault, accepted, refused, read, limits, maxDepth, maxNodes}
+use Rattle.cel_text.specs.Answer.{maxText, faultNumber, Found, tree, fault, findTree, answered, treeAnswer}
 use Rattle.cel_text.specs.Laws.Class.{by-test}
 use Rattle.cel_text.specs.Laws.Find.{FindsTree, too-short, too-long, not-ascii, broken, whole, finds, answer-within}
 pub use Rattle.cel_text.specs.Laws.Find.{faultNumber-range}

@@ -9,11 +9,11 @@ use mathlib.Core.Option.{Option, none, some}
 use lib.ListN.{length, length-append}
 use lib.Dec.{lit≤}
 use Rattle.cel_text.specs.Byte.{Text, Run, Plain}
-use Rattle.cel_text.specs.Tree.{Tree, nodes, depth}
+use Rattle.cel_text.specs.Tree.{Tree}
 use Rattle.cel_text.specs.Abstract.{Ast, write, sizeOf, heightOf, Writable}
-use Rattle.cel_text.specs.Reading.{accepted, read, limits, maxDepth, maxNodes}
+use Rattle.cel_text.specs.Reading.{maxDepth, maxNodes}
 use Rattle.cel_text.specs.Laws.Complete.{complete}
-use Rattle.cel_policy.specs.Policy.{Span, Policy, allStrings, content, strings}
+use Rattle.cel_policy.specs.Policy.{Policy, allStrings, content, strings}
 use Rattle.cel_policy.specs.Mapping.{good, Request, Only, certified, skipped, nodeOf, mapping}
 use Rattle.cel_policy.specs.Printed.{Each, printed, printedNodes, printedDepth, Proper}
 use Rattle.cel_policy.specs.Meaning.{ReadAs}

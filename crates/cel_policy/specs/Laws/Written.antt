@@ -1,13 +1,13 @@
 -- The tree which the text of a tree without places stands for: it is a value of the grammar, and what the mapping sees of it are the bytes that
 -- were written. Assumes nothing.
 use mathlib.Core.Path.{_≡_, refl, sym, ap}
-use Prim.Native.Nat.{ℕ, suc, _+_, max}
+use Prim.Native.Nat.{ℕ, suc, _+_}
 use native.Mathlib.Nat.{add-zero}
 use mathlib.Core.Bool.{Bool}
 use mathlib.Core.List.{[], _∷_, _++_, append-nil}
 use lib.ListN.{length}
 use lib.Seq.{slice}
-use Rattle.cel_text.specs.Byte.{Text, Run, over, Identifier, quote, comma, colon}
+use Rattle.cel_text.specs.Byte.{Text, over, Identifier, quote, colon}
 use Rattle.cel_text.specs.Tree.{Kind, array, object, function, opener, closer, Key, unkeyed, key, Tree, string, container, Trees, ∅, _▸_∶_, nodes, nodesAll, depth, depthAll, count}
 use Rattle.cel_text.specs.Abstract.{Ast, str, con, Asts, ε, _▪_∶_, label, separator, write, writeAll, sizeOf, sizeAll, heightOf, heightAll, countOf, GoodName, GoodKey, Writable, WritableAll}
 use Rattle.cel_text.specs.Grammar.{Named, nameless, with-name, Head, array-head, object-head, function-head, Label, in-array, in-function, in-object, Separator, next, Value, a-string, a-container, Children, no-child, one-more}

@@ -2,16 +2,16 @@
 use mathlib.Core.Path.{_≡_, refl, sym, ap, subst, _∙_}
 use Prim.Native.Nat.{ℕ, suc, _+_, _≤_}
 use native.Mathlib.Nat.{add-zero, suc-add}
-use mathlib.Core.Bool.{Bool, true, false}
+use mathlib.Core.Bool.{Bool, false}
 use mathlib.Core.List.{[], _∷_, _++_, append-assoc}
 use lib.ListN.{length, take, length-append}
 use lib.Seq.{take-append-seam}
 use lib.Dec.{T, eqb, eqb→eq}
 use native.Mathlib.Omega.{arith}
-use Rattle.cel_text.specs.Byte.{Text, _⧺_, blank, alphanumeric, identByte, Run, over, byte, Blanks, quote, comma, colon, Plain}
+use Rattle.cel_text.specs.Byte.{Text, _⧺_, blank, identByte, Run, over, byte, Blanks, quote, comma, colon, Plain}
 use Rattle.cel_text.specs.Tree.{Kind, array, object, function, opener, closer, Key, unkeyed, key, Tree, string, container, Trees, ∅, _▸_∶_, nodes, nodesAll, depth}
-use Rattle.cel_text.specs.Grammar.{Named, nameless, with-name, Head, array-head, object-head, function-head, Label, in-array, in-function, in-object, Separator, first, next, Value, a-string, a-container, Children, no-child, one-more}
-use Rattle.cel_text.specs.Reading.{Limits, Stack, root, inside, level, opened, Frame, Due, value, entry, State, before, quoted, dropping, begun, after, Step, go, step, start, past, bare, unquote, enter, enterString, whole, child, closed, fresh, withKey, withChild, Outcome, accepted, follow, run, read, limits, unlimited, maxDepth, maxNodes}
+use Rattle.cel_text.specs.Grammar.{Named, nameless, with-name, Head, array-head, object-head, function-head, Label, in-array, in-function, in-object, Separator, first, next, Value, a-string, a-container, no-child, one-more}
+use Rattle.cel_text.specs.Reading.{Limits, Stack, root, inside, level, opened, Frame, Due, value, entry, State, before, quoted, dropping, begun, after, Step, go, step, start, past, bare, unquote, enter, enterString, whole, child, closed, fresh, withKey, accepted, follow, run, read, limits, unlimited, maxDepth, maxNodes}
 use Rattle.cel_text.specs.Laws.Class.{is-true, is-false, blank-ident, closer-blank, closer-comma, closer-closer}
 use Rattle.cel_text.specs.Laws.Admit.{Admits, AdmitsAll, fits-admits, unlimited-admits}
 use Rattle.cel_text.specs.Laws.Run.{resume, whole-resumes, before-blanks, quoted-strings, dropping-blanks, begun-blanks, after-blanks, after-name}

@@ -1,9 +1,9 @@
 -- Where the limits refuse: at the opener of the first node that they do not admit, and never where the syntax does. Assumes nothing.
 use mathlib.Core.Path.{_≡_, refl, sym, ap, subst, subst₂, _∙_}
 use mathlib.Core.Logic.{_⊎_, inl, inr, ⊎-elim, _↔_}
-use mathlib.Core.Option.{Option, none, some}
-use Prim.Native.Nat.{ℕ, zero, suc, _+_, _-_, _≤_, _<_}
-use native.Mathlib.Nat.{add-zero, zero-add, suc-inj}
+use mathlib.Core.Option.{some}
+use Prim.Native.Nat.{ℕ, zero, suc, _+_, _≤_, _<_}
+use native.Mathlib.Nat.{add-zero, zero-add}
 use native.Mathlib.Decide.{decLe}
 use mathlib.Core.Bool.{Bool, true, false}
 use mathlib.Core.List.{List, [], _∷_, _++_, append-assoc, append-nil}
@@ -13,7 +13,7 @@ use native.Mathlib.Omega.{arith}
 use borrow.Author.Tests.{eqb-true, eqb-false}
 use Rattle.cel_text.specs.Byte.{Text, _⧺_, Plain}
 use Rattle.cel_text.specs.Tree.{Tree, Opening, openings, OpensAs}
-use Rattle.cel_text.specs.Grammar.{Legal, Viable, Longest, Always}
+use Rattle.cel_text.specs.Grammar.{Legal, Viable, Always}
 use Rattle.cel_text.specs.Reading.{Limits, unlimited, limits, maxDepth, maxNodes, root, value, State, before, Fault, syntax, tooDeep, tooMany, Step, go, done, refuse, step, Outcome, accepted, refused, run, read}
 use Rattle.cel_text.specs.Laws.Trace.{Trace, here, there, traced, trace-snoc, trace-take, Accepts, Refuses, Stops, Ends, ends}
 use Rattle.cel_text.specs.Laws.Move.{at, openedBy, Shallow, Moves, quiet, opens, finishes, stops, deep, many, step-moves}

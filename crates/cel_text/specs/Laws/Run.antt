@@ -1,16 +1,16 @@
 -- Reading on, over a run of bytes, a name, and after a whole value. Assumes nothing.
-use mathlib.Core.Path.{_≡_, refl, sym, ap, ap₂, _∙_}
+use mathlib.Core.Path.{_≡_, refl, ap, ap₂, _∙_}
 use Prim.Native.Nat.{ℕ, suc, _+_}
-use native.Mathlib.Nat.{add-zero, add-suc, suc-add}
-use mathlib.Core.Bool.{Bool, true, false}
+use native.Mathlib.Nat.{add-zero}
+use mathlib.Core.Bool.{Bool, false}
 use mathlib.Core.List.{[], _∷_, _++_, append-assoc}
 use lib.ListN.{length, length-append}
 use lib.Dec.{T, eqb}
 use native.Mathlib.Omega.{arith}
-use Rattle.cel_text.specs.Byte.{Text, _⧺_, blank, identByte, Run, over, byte, Blanks, quote, Plain}
+use Rattle.cel_text.specs.Byte.{Text, _⧺_, blank, identByte, Run, over, byte, Blanks, quote}
 use Rattle.cel_text.specs.Tree.{Tree, opener, array}
 use Rattle.cel_text.specs.Grammar.{Named, nameless, with-name}
-use Rattle.cel_text.specs.Reading.{Limits, Stack, root, inside, Frame, Due, value, entry, State, before, naming, named, quoted, dropping, begun, after, Step, go, done, refuse, step, start, past, bare, unquote, whole, withChild, Outcome, accepted, Stop, ended, stopped, outcome, meet, follow, halt, run}
+use Rattle.cel_text.specs.Reading.{Limits, Stack, root, inside, Frame, Due, value, entry, State, before, naming, named, quoted, dropping, begun, after, Step, go, done, refuse, step, start, past, bare, unquote, whole, withChild, Outcome, accepted, ended, stopped, outcome, meet, follow, halt, run}
 use Rattle.cel_text.specs.Laws.Class.{is-true, ident-blank, blank-ident}
 
 -- reading on, once the value t is whole, at place q

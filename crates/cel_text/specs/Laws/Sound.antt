@@ -2,17 +2,17 @@
 -- are put together, and each step keeps that. Assumes nothing.
 use mathlib.Core.Path.{_≡_, refl, sym, ap, subst, subst₂, _∙_}
 use Prim.Native.Nat.{ℕ, suc, _+_, _≤_}
-use native.Mathlib.Nat.{add-zero, suc-add}
-use mathlib.Core.Bool.{Bool, true, false, cond}
+use native.Mathlib.Nat.{suc-add}
+use mathlib.Core.Bool.{Bool, true, false}
 use mathlib.Core.List.{[], _∷_, _++_, append-assoc, append-nil}
 use lib.ListN.{length, length-append}
 use lib.Dec.{T, eqb}
 use native.Mathlib.Omega.{arith}
 use borrow.Author.Tests.{eqb-true}
 use Rattle.cel_text.specs.Byte.{Text, _⧺_, blank, identByte, Run, over, byte, Blanks, Identifier, quote, comma, colon}
-use Rattle.cel_text.specs.Tree.{Kind, array, object, function, opener, closer, Key, unkeyed, key, Tree, string, container, Trees, ∅, _▸_∶_, nodes, nodesAll, depth}
+use Rattle.cel_text.specs.Tree.{Kind, array, object, function, opener, closer, Key, unkeyed, key, Tree, string, container, Trees, nodes, nodesAll, depth}
 use Rattle.cel_text.specs.Grammar.{Named, nameless, with-name, Head, array-head, object-head, function-head, Label, in-array, in-function, in-object, Separator, first, next, Value, a-string, a-container, Children, no-child, one-more}
-use Rattle.cel_text.specs.Reading.{Limits, Stack, root, inside, level, opened, Frame, Due, value, entry, State, before, naming, named, quoted, dropping, begun, after, Fault, Step, go, done, refuse, step, start, past, bare, unquote, enter, enterString, whole, child, closed, fresh, withKey, withChild, accepted, read, limits, maxDepth, maxNodes}
+use Rattle.cel_text.specs.Reading.{Limits, Stack, root, inside, level, opened, Frame, Due, value, entry, State, before, naming, named, quoted, dropping, begun, after, Step, go, done, refuse, step, start, past, bare, unquote, enter, enterString, whole, child, closed, withKey, accepted, read, limits, maxDepth, maxNodes}
 use Rattle.cel_text.specs.Laws.Class.{by-test}
 use Rattle.cel_text.specs.Laws.Admit.{Admits, AdmitsAll, admits-fits}
 use Rattle.cel_text.specs.Laws.Trace.{Trace, here, there, Accepts, Ends, ends}
