@@ -11,18 +11,24 @@ use Rattle.cel_text.specs.Table.{Words}
 use Rattle.cel_text.specs.Answer.{Answer, treeAnswer, treeTable}
 use Rattle.cel_policy.specs.Names.{spelling}
 use Rattle.cel_policy.specs.Policy.{Counted}
-use Rattle.cel_policy.specs.Mapping.{typed, lookup, present, element, elements, stringArray, firstOf, firstChild, headersOf, listOf, responseLists, responsePart, listAt, requestLists, requestOf, requestPart, certificationParts, certificationOf, validationArgs, mapping}
+use Rattle.cel_policy.specs.Mapping.{typed, lookup, present, element, elements, stringArray, firstOf, firstChild, headersOf, listOf, responseLists, responsePart, listAt, requestLists}
+use Rattle.cel_policy.specs.Mapping.{requestOf, requestPart, certificationParts, certificationOf, validationArgs, mapping}
 use Rattle.cel_policy.specs.Spans.{spanTable}
 use Rattle.cel_policy.specs.Printed.{skipText, requestText, responseText, responseOnlyText, fullText, printed, shaped}
-use Rattle.cel_policy.specs.Answers.{PolicyAnswer, policyAnswer, policyNodes, policySpans, spanFits, bytesFit, sized, findPrint, PrintAnswer, printAnswer, printOutput, findCanonical, canonicalAnswer, canonicalOutput}
+use Rattle.cel_policy.specs.Answers.{PolicyAnswer, policyAnswer, policyNodes, policySpans, spanFits, bytesFit, sized, findPrint, PrintAnswer, printAnswer, printOutput, findCanonical}
+use Rattle.cel_policy.specs.Answers.{canonicalAnswer, canonicalOutput}
 
 -- what an answer is computed through: reading, mapping, printing
 reading : Unit {0}
 unfolding ascii stringByte blank identByte alphanumeric enter enterString past bare start unquote step treeAnswer treeTable
 reading = tt
 
+listing : Unit {0}
+unfolding spelling element elements stringArray headersOf listOf listAt responseLists requestLists requestOf
+listing = tt
+
 mapped : Unit {0}
-unfolding spelling typed lookup present element elements stringArray firstOf firstChild headersOf listOf responseLists responsePart listAt requestLists requestOf requestPart certificationParts certificationOf validationArgs mapping spanTable policyAnswer policyNodes policySpans
+unfolding listing typed lookup present firstOf firstChild requestPart responsePart certificationParts certificationOf validationArgs mapping spanTable policyAnswer policyNodes policySpans
 mapped = tt
 
 printing : Unit {0}
@@ -266,7 +272,8 @@ slips =
     ∷ record {
       text =
           certifying
-          (bytes "response_certification:ResponseCertification{certified_response_headers:ResponseHeaderList{headers:[\"r\"]}},request_certification:RequestCertification{certified_query_parameters:[\"q\"],certified_request_headers:[\"h\",\"i\"]}");
+          (bytes "response_certification:ResponseCertification{certified_response_headers:ResponseHeaderList{headers:[\"r\"]}},"
+          ++ bytes "request_certification:RequestCertification{certified_query_parameters:[\"q\"],certified_request_headers:[\"h\",\"i\"]}");
       answer = record { answer = aTree 13 6; policy = record { form = 3; kind = 1; requestHeaders = 2; queryParameters = 1; responseHeaders = 1 } };
       spans = 276 ∷ 277 ∷ 280 ∷ 281 ∷ 244 ∷ 245 ∷ 166 ∷ 167 ∷ [];
     }
@@ -337,7 +344,9 @@ askings =
       room = 290;
       answer = record { refusal = 0; name = 0; kind = 0; place = 0; length = 286 };
       writes =
-          bytes "default_certification(ValidationArgs{certification:Certification{request_certification:RequestCertification{certified_request_headers:[\"ab\",\"\"],certified_query_parameters:[]},response_certification:ResponseCertification{response_header_exclusions:ResponseHeaderList{headers:[\"def\"]}}}})";
+          certifying
+          (bytes "request_certification:RequestCertification{certified_request_headers:[\"ab\",\"\"],certified_query_parameters:[]},"
+          ++ bytes "response_certification:ResponseCertification{response_header_exclusions:ResponseHeaderList{headers:[\"def\"]}}");
     }
     ∷ record { numbers = asked; spans = 0 ∷ 2 ∷ 1 ∷ 1 ∷ 4 ∷ 7 ∷ []; room = 285; answer = refusing 24 0; writes = [] }
     ∷ record { numbers = asked; spans = 0 ∷ 4 ∷ 3 ∷ 4 ∷ 4 ∷ 7 ∷ []; room = 0; answer = refusing 22 0; writes = [] }

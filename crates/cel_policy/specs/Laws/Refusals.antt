@@ -20,7 +20,8 @@ use Rattle.cel_policy.specs.Policy.{Span, Policy, Counted, stringCount, 
 use Rattle.cel_policy.specs.Mapping.{Node, Refusal, Mapped, good, bad, nodeOf, mapping}
 use Rattle.cel_policy.specs.Spans.{spanWords}
 use Rattle.cel_policy.specs.Printed.{printed, shaped}
-use Rattle.cel_policy.specs.Answers.{canonicalAnswer, oneNumber, refusalBase, placed, spanFits, bytesFit, firstFault, findCanonical, reprinted, FoundPolicy, policy, unmapped, unread, judged, mapTree, findPolicy, policyAnswered, policyAnswer, Printing, written, unprinted, unlessFaulty, sized, findPrint, printAnswered, printAnswer}
+use Rattle.cel_policy.specs.Answers.{canonicalAnswer, oneNumber, refusalBase, placed, spanFits, bytesFit, firstFault, findCanonical, reprinted, FoundPolicy, policy, unmapped, unread, judged}
+use Rattle.cel_policy.specs.Answers.{mapTree, findPolicy, policyAnswered, policyAnswer, Printing, written, unprinted, unlessFaulty, sized, findPrint, printAnswered, printAnswer}
 use Rattle.cel_policy.specs.Laws.Counts.{between, OfMapping, meets-mapping}
 use Rattle.cel_policy.specs.Laws.Readable.{Readable, readable}
 use Rattle.cel_policy.specs.Laws.SpanTable.{print-read}

@@ -21,7 +21,8 @@ use Rattle.cel_policy.specs.Laws.Natural.{unmap, mapping-natural}
 use Rattle.cel_policy.specs.Laws.Places.{here-all}
 use Rattle.cel_policy.specs.Laws.Written.{treeAt, seen, value-written, seen-written, nodes-treeAt, depth-treeAt}
 use Rattle.cel_policy.specs.Laws.Shape.{Shape, skips, certifies, countOf, maxOf, shape-of}
-use Rattle.cel_policy.specs.Laws.PrintedTree.{skipValue, emptyObject, certifiedValue, printed-skip, printed-certified, size-certified, height-certified, mapping-skip, mapping-certified, writable-empty, writable-skip, writable-certified}
+use Rattle.cel_policy.specs.Laws.PrintedTree.{skipValue, emptyObject, certifiedValue, printed-skip, printed-certified, size-certified, height-certified, mapping-skip, mapping-certified}
+use Rattle.cel_policy.specs.Laws.PrintedTree.{writable-empty, writable-skip, writable-certified}
 
 -- a text is read as one policy at most
 pub readAs-unique : {S : ℕ → Bool} {x : Text} {p p′ : Policy Text} {q q′ n n′ d d′ : ℕ} → ReadAs S x p q n d → ReadAs S x p′ q′ n′ d′ → p ≡ p′

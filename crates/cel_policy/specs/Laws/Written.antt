@@ -10,7 +10,8 @@ use lib.Seq.{slice}
 use Rattle.cel_text.specs.Byte.{Text, over, Identifier, quote, colon}
 use Rattle.cel_text.specs.Tree.{Kind, array, object, function, opener, closer, Key, unkeyed, key, Tree, string, container, Trees, ∅, _▸_∶_, nodes, nodesAll, depth, depthAll, count}
 use Rattle.cel_text.specs.Abstract.{Ast, str, con, Asts, ε, _▪_∶_, label, separator, write, writeAll, sizeOf, sizeAll, heightOf, heightAll, countOf, GoodName, GoodKey, Writable, WritableAll}
-use Rattle.cel_text.specs.Grammar.{Named, nameless, with-name, Head, array-head, object-head, function-head, Label, in-array, in-function, in-object, Separator, next, Value, a-string, a-container, Children, no-child, one-more}
+use Rattle.cel_text.specs.Grammar.{Named, nameless, with-name, Head, array-head, object-head, function-head, Label, in-array, in-function, in-object, Separator, next, Value, a-string, a-container}
+use Rattle.cel_text.specs.Grammar.{Children, no-child, one-more}
 use Rattle.cel_policy.specs.Policy.{content}
 use Rattle.cel_policy.specs.Mapping.{Node, leaf, branch, Nodes, childless, _▹_∶_, keyBytes, nodeOf, nodesOf}
 use Rattle.cel_policy.specs.Laws.Natural.{overNode, overNodes}

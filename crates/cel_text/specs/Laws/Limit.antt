@@ -14,7 +14,8 @@ use borrow.Author.Tests.{eqb-true, eqb-false}
 use Rattle.cel_text.specs.Byte.{Text, _⧺_, Plain}
 use Rattle.cel_text.specs.Tree.{Tree, Opening, openings, OpensAs}
 use Rattle.cel_text.specs.Grammar.{Legal, Viable, Always}
-use Rattle.cel_text.specs.Reading.{Limits, unlimited, limits, maxDepth, maxNodes, root, value, State, before, Fault, syntax, tooDeep, tooMany, Step, go, done, refuse, step, Outcome, accepted, refused, run, read}
+use Rattle.cel_text.specs.Reading.{Limits, unlimited, limits, maxDepth, maxNodes, root, value, State, before, Fault, syntax, tooDeep, tooMany, Step, go, done, refuse, step, Outcome, accepted}
+use Rattle.cel_text.specs.Reading.{refused, run, read}
 use Rattle.cel_text.specs.Laws.Trace.{Trace, here, there, traced, trace-snoc, trace-take, Accepts, Refuses, Stops, Ends, ends}
 use Rattle.cel_text.specs.Laws.Move.{at, openedBy, Shallow, Moves, quiet, opens, finishes, stops, deep, many, step-moves}
 use Rattle.cel_text.specs.Laws.Sound.{Reads, sound}
@@ -185,7 +186,10 @@ module _ (S : ℕ → Bool) where
           inText = simp length-append (omega arith);
           viable = rw front (trace-viable S P tr′);
           always = λ w l. let g = opened w l in ap (λ (us : List Opening). getElem? us (length os)) (g .1) ∙ getElem-seam os (at (length v) d) (g .0);
-          only = λ w l m e h. let g = opened w l in by m e (g .0) (g .2) (getElem-append (os ++ at (length v) d ∷ []) (g .0) m (at (length v) e) (ap (λ (us : List Opening). getElem? us m) (sym (g .1)) ∙ h));
+          only = λ w l m e h.
+              let g = opened w l in
+              let here : Opening = at (length v) e in
+              by m e (g .0) (g .2) (getElem-append (os ++ at (length v) d ∷ []) (g .0) m here (ap (λ (us : List Opening). getElem? us m) (sym (g .1)) ∙ h));
         }
       where
         os : List Opening
@@ -271,11 +275,13 @@ pub record Falls (S : ℕ → Bool) (B : (n d : ℕ) → Type 0) (x : Text) (j :
 -- a completion of some bytes is one of fewer
 fewer : (S : ℕ → Bool) (x : Text) (i k : ℕ) → i ≤ k → (w : Text) (l : Legal S (take k x ⧺ w)) → Legal S (take i x ⧺ (drop i (take k x) ⧺ w))
 fewer S x i k h w l =
+    let gone : Text = drop i (take k x) in
+    let joined : take i x ++ gone ≡ take k x = ap (λ (y : Text). y ++ gone) (sym (take-take i k x h)) ∙ take-append-drop i (take k x) in
     record {
       value = l .value;
       rest = l .rest;
       tree = l .tree;
-      split = sym (append-assoc (take i x) (drop i (take k x)) w) ∙ ap (λ (y : Text). (y ++ drop i (take k x)) ++ w) (sym (take-take i k x h)) ∙ ap (λ (y : Text). y ++ w) (take-append-drop i (take k x)) ∙ l .split;
+      split = sym (append-assoc (take i x) gone w) ∙ ap (λ (y : Text). y ++ w) joined ∙ l .split;
       reads = l .reads;
     }
 

@@ -9,7 +9,8 @@ use lib.Dec.{eqb}
 use native.Mathlib.Omega.{arith}
 use Rattle.cel_text.specs.Byte.{blank, identByte, quote, comma, colon}
 use Rattle.cel_text.specs.Tree.{Kind, array, object, function, opener, closer, Tree, string, container, Trees, ∅, _▸_∶_, nodes, nodesAll, Opening, openings, openingsAll}
-use Rattle.cel_text.specs.Reading.{Limits, unlimited, Stack, root, inside, level, opened, Frame, Due, value, entry, State, before, naming, named, quoted, dropping, begun, after, syntax, tooDeep, tooMany, Step, go, done, refuse, step, start, past, bare, unquote, enter, enterString, whole, child, closed, fresh, withChild}
+use Rattle.cel_text.specs.Reading.{Limits, unlimited, Stack, root, inside, level, opened, Frame, Due, value, entry, State, before, naming, named, quoted, dropping, begun, after, syntax}
+use Rattle.cel_text.specs.Reading.{tooDeep, tooMany, Step, go, done, refuse, step, start, past, bare, unquote, enter, enterString, whole, child, closed, fresh, withChild}
 use Rattle.cel_text.specs.Laws.Class.{by-test}
 
 -- ---- the nodes that have opened

@@ -10,7 +10,8 @@ use native.Mathlib.Omega.{arith}
 use Rattle.cel_text.specs.Byte.{Text, _⧺_, blank, identByte, Run, over, byte, Blanks, quote}
 use Rattle.cel_text.specs.Tree.{Tree, opener, array}
 use Rattle.cel_text.specs.Grammar.{Named, nameless, with-name}
-use Rattle.cel_text.specs.Reading.{Limits, Stack, root, inside, Frame, Due, value, entry, State, before, naming, named, quoted, dropping, begun, after, Step, go, done, refuse, step, start, past, bare, unquote, whole, withChild, Outcome, accepted, ended, stopped, outcome, meet, follow, halt, run}
+use Rattle.cel_text.specs.Reading.{Limits, Stack, root, inside, Frame, Due, value, entry, State, before, naming, named, quoted, dropping, begun, after, Step, go, done, refuse, step, start}
+use Rattle.cel_text.specs.Reading.{past, bare, unquote, whole, withChild, Outcome, accepted, ended, stopped, outcome, meet, follow, halt, run}
 use Rattle.cel_text.specs.Laws.Class.{is-true, ident-blank, blank-ident}
 
 -- reading on, once the value t is whole, at place q
