@@ -8,3 +8,5 @@ pub mod Sound
 pub mod Move
 pub mod Place
 pub mod Limit
+pub mod Exact
+pub mod Find

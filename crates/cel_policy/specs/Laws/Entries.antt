@@ -8,16 +8,18 @@ use mathlib.Core.List.{_++_}
 use lib.ListN.{length, take, drop, replicate, length-map}
 use lib.Seq.{take-append-seam}
 use borrow.Author.Tests.{le-ltb}
-use Rattle.cel_text.specs.Byte.{Text, Run, Plain, ascii, lead, stringByte}
+use Rattle.cel_text.specs.Byte.{Text, Run, Plain, ascii, stringByte}
 use Rattle.cel_text.specs.Tree.{Tree, nodes, depth}
 use Rattle.cel_text.specs.Table.{Words, nodeWords}
 use Rattle.cel_text.specs.Answer.{maxText}
 use Rattle.cel_text.specs.Laws.Class.{stringByte-plain}
+use Rattle.cel_text.specs.Laws.Find.{find-passes}
 use Rattle.cel_policy.specs.Policy.{Span, Policy, Counted, counted, strings}
+use Rattle.cel_policy.specs.Meaning.{ReadAs}
 use Rattle.cel_policy.specs.Spans.{spanWords, spanTable}
 use Rattle.cel_policy.specs.Printed.{printed, printedNodes, printedDepth, Proper}
 use Rattle.cel_policy.specs.Answers.{policy, findPolicy, policyAnswer, policySpans, placed, Printing, written, unprinted, sized, findPrint, printAnswered, output, printAnswer, printOutput}
-use Rattle.cel_policy.specs.Laws.RoundTrip.{ReadAs, round-trip}
+use Rattle.cel_policy.specs.Laws.RoundTrip.{round-trip}
 use Rattle.cel_policy.specs.Laws.Readable.{readable}
 use Rattle.cel_policy.specs.Laws.SpanTable.{counted-placed, placed-table, print-read, prints}
 use Rattle.cel_policy.specs.Laws.Refusals.{Gives, OfPrint, print-gives}
@@ -28,7 +30,7 @@ pub find-read :
     (S : ℕ → Bool) {x : Text} {p : Policy Text} {q n d : ℕ} (r : ReadAs S x p q n d)
     → length x ≤ maxText → Run ascii x → (w v : ℕ) → nodeWords ≤ w → spanWords ≤ v → findPolicy S w v x ≡ policy (r .tree) (r .places)
 find-read S {x} r short low w v hw hv =
-    rw (le-ltb v spanWords hv, le-ltb w nodeWords hw, le-ltb maxText (length x) short, le-ltb (lead ascii x) (length x) (omega (arith, lead-run low)), r .reads, r .maps)
+    rw (le-ltb v spanWords hv, find-passes S w x (record { enough = hw; short = short; low = omega (arith, lead-run low) }), r .reads, r .maps)
 
 -- its numbers are the policy's
 pub counted-strings : (x : Text) (p : Policy Span) → counted (strings x p) ≡ counted p

@@ -9,20 +9,21 @@ use lib.Seq.{take-length}
 use lib.Dec.{lit≤}
 use borrow.Author.Tests.{lt-ltb}
 use Rattle.cel_text.specs.Byte.{Text, _⧺_, Run, over, ascii, stringByte, bytes}
+use Rattle.cel_text.specs.Abstract.{Ast, str, write, sizeOf, heightOf, Writable}
 use Rattle.cel_text.specs.Table.{Words, nodeWords}
 use Rattle.cel_text.specs.Answer.{maxText}
 use Rattle.cel_text.specs.Laws.Class.{stringByte-plain}
 use Rattle.cel_policy.specs.Names.{spelling}
 use Rattle.cel_policy.specs.Policy.{Span, Policy, Counted, counted, responseOnly, inclusions}
 use Rattle.cel_policy.specs.Mapping.{first, certified}
+use Rattle.cel_policy.specs.Meaning.{ReadAs}
 use Rattle.cel_policy.specs.Spans.{spanWords, spanTable}
 use Rattle.cel_policy.specs.Printed.{nothing, each, printed, printedLength}
 use Rattle.cel_policy.specs.Answers.{policy, findPolicy, policySpans, printAnswered, policyAnswer, sized, unprinted, findPrint, printAnswer, canonicalAnswer, refusalBase}
 use Rattle.cel_policy.specs.Laws.Lengths.{length-printed}
-use Rattle.cel_policy.specs.Laws.Written.{Ast, str, write, sizeOf, heightOf, Writable}
 use Rattle.cel_policy.specs.Laws.Shape.{certifies}
 use Rattle.cel_policy.specs.Laws.PrintedTree.{certifiedValue, size-certified, height-certified, mapping-certified, writable-certified}
-use Rattle.cel_policy.specs.Laws.RoundTrip.{ReadAs, written-read}
+use Rattle.cel_policy.specs.Laws.RoundTrip.{written-read}
 use Rattle.cel_policy.specs.Laws.Readable.{Fits, Readable}
 use Rattle.cel_policy.specs.Laws.SpanTable.{print-read}
 use Rattle.cel_policy.specs.Laws.Refusals.{found-readable}
