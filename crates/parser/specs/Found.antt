@@ -2,11 +2,12 @@
 use mathlib.Core.Path.{_≡_}
 use Prim.Native.Nat.{ℕ, _≤_}
 use lib.Seq.{sets}
-use Rattle.cel_text.specs.Byte.{Text, stringByte}
+use Rattle.cel_text.specs.Byte.{Text}
 use Rattle.cel_text.specs.Tree.{Tree, nodes, depth}
 use Rattle.cel_text.specs.Reading.{maxDepth, maxNodes}
 use Rattle.cel_text.specs.Table.{Words, Left, untouched, cleared, filled, rows, nodeWords, nodesLeft}
 use Rattle.cel_text.specs.Answer.{Answer, refusedAt, findTree, tree, fault, maxText}
+use Rattle.parser.specs.Set.{stringSet}
 use Rattle.parser.specs.declared.Answer.{Answer as Told}
 use Rattle.parser.specs.declared.Step.{Step}
 use Rattle.parser.specs.declared.Step.the-variants.{Next, Refused}
@@ -18,7 +19,7 @@ told a = record { refusal = a .refusal; name = a .name; kind = a .kind; place = 
 -- a tree found, with its rows at the table's start, or a refusal that clears the table
 pub record Tree-found (x : Text) (w w′ : Words) (q m d : ℕ) : Type 0 where
   pub found : Tree
-  pub finds : findTree stringByte nodeWords x ≡ tree found q
+  pub finds : findTree stringSet nodeWords x ≡ tree found q
   pub counts : m ≡ nodes found
   pub deep : d ≡ depth found
   pub rows-put : w′ ≡ sets w 0 (rows found)
@@ -26,7 +27,7 @@ pub record Tree-found (x : Text) (w w′ : Words) (q m d : ℕ) : Type 0 where
   pub shallow : d ≤ maxDepth
 
 pub record Fault-found (x : Text) (r p : ℕ) : Type 0 where
-  pub finds : findTree stringByte nodeWords x ≡ fault r p
+  pub finds : findTree stringSet nodeWords x ≡ fault r p
   pub clears : nodesLeft r ≡ cleared
   pub within : p ≤ maxText
 

@@ -42,8 +42,8 @@ pub const MAX_DEPTH: usize = 32;
 
 pub const MAX_NODES: usize = 256;
 
-// The node table: the words that count, and those of a row.
-pub const NODE_WORDS: usize = 2048;
+// The node table: the words that count, a row for each node that may be; and those of a row.
+pub const NODE_WORDS: usize = ROW_WORDS * MAX_NODES;
 
 pub const ROW_WORDS: usize = 8;
 
@@ -139,7 +139,7 @@ fn find(text: &[u8], table: &mut [u32]) -> Step
         MAX_DEPTH,
         Place(0),
         Place(0),
-        0,
+        row::Parent(0),
     )
 }
 
