@@ -10,3 +10,4 @@ pub mod Place
 pub mod Limit
 pub mod Exact
 pub mod Find
+pub mod Table
