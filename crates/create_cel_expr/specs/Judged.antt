@@ -2,17 +2,13 @@
 use mathlib.Core.Path.{_≡_}
 use Prim.Native.Nat.{ℕ}
 use mathlib.Core.Bool.{Bool}
-use Rattle.cel_text.specs.Byte.{Text, stringByte}
+use Rattle.cel_text.specs.Byte.{Text}
 use Rattle.cel_text.specs.Table.{Words}
 use Rattle.cel_policy.specs.Policy.{Counted, strings}
 use Rattle.cel_policy.specs.Printed.{printed}
 use Rattle.cel_policy.specs.Answers.{placed, Judgement, clean, faulty, judgement, Printing, unlessJudged, sized}
 use Rattle.create_cel_expr.specs.declared.Judged.{Judged}
 use Rattle.create_cel_expr.specs.declared.Judged.the-variants.{Clean, Faulty}
-
--- the set of string bytes that `judge_policy` and `print_policy` judge by
-abbrev pub ours : ℕ → Bool
-ours = stringByte
 
 abbrev pub judgedAs : Judged → Judgement
 judgedAs Clean = clean

@@ -5,7 +5,8 @@ ghost use Rattle.cel_policy.specs.Policy.{numbers};
 ghost use Rattle.cel_policy.specs.Printed.{shaped, maxResponseOnly};
 ghost use Rattle.cel_policy.specs.Answers.{spanFits, bytesFit, anyByte, firstFault, clean, unlessFaulty, judgement};
 ghost use Rattle.cel_policy.specs.Laws.Judging.{Inside, AllInside};
-ghost use Rattle.create_cel_expr.specs.Judged.{ours, judgedAs};
+ghost use Rattle.parser.specs.Set.{stringSet};
+ghost use Rattle.create_cel_expr.specs.Judged.{judgedAs};
 use crate::Judged;
 use crate::NO_STRING_BYTE;
 use crate::SPAN_OUTSIDE;
@@ -88,17 +89,17 @@ fn first_outside(text: &[u8], spans: &[u32], count: usize) -> Judged
 // Whether string i has string bytes only.
 fn plain(text: &[u8], spans: &[u32], i: usize) -> bool
     requires { ⌜ Inside (now spans) (now text) i ⌝ }
-    ensures { λ r. ⌜ r ≡ bytesFit ours (now (spans .entry)) (now (text .entry)) i ⌝ }
+    ensures { λ r. ⌜ r ≡ bytesFit stringSet (now (spans .entry)) (now (text .entry)) i ⌝ }
 {
     let string = span::string(text, spans, i);
-    let end = scan::run_of(string, Place(0), Class::Content);
+    let end = scan::run_of(string, Place(0), Class::StringByte);
     end.0 == string.len()
 }
 
 // 22: the first string that has another byte.
 fn first_odd(text: &[u8], spans: &[u32], count: usize) -> Judged
     requires { ⌜ AllInside (now spans) (now text) count 0 ⌝ }
-    ensures { λ r. ⌜ judgedAs r ≡ unlessFaulty 22 (firstFault (bytesFit ours (now (spans .entry)) (now (text .entry))) count 0) clean ⌝ }
+    ensures { λ r. ⌜ judgedAs r ≡ unlessFaulty 22 (firstFault (bytesFit stringSet (now (spans .entry)) (now (text .entry))) count 0) clean ⌝ }
 {
     let mut i = 0;
     while i < count {
@@ -121,8 +122,8 @@ pub(crate) fn over_any(policy: Policy, text: &[u8], spans: &[u32]) -> Judged
 }
 
 // And 22.
-pub(crate) fn over_ours(policy: Policy, text: &[u8], spans: &[u32]) -> Judged
-    ensures { λ r. ⌜ judgedAs r ≡ judgement ours (numbers policy) (now (spans .entry)) (now (text .entry)) ⌝ }
+pub(crate) fn over_set(policy: Policy, text: &[u8], spans: &[u32]) -> Judged
+    ensures { λ r. ⌜ judgedAs r ≡ judgement stringSet (numbers policy) (now (spans .entry)) (now (text .entry)) ⌝ }
 {
     let judged = over_any(policy, text, spans);
     match judged {

@@ -14,7 +14,8 @@ ghost use Rattle.cel_policy.specs.Policy.{numbers};
 ghost use Rattle.cel_policy.specs.Printed.{maxResponseOnly};
 ghost use Rattle.cel_policy.specs.Answers.{anyByte, judgement, unprinted, printAnswered, output, printAnswer, printOutput};
 ghost use Rattle.create_cel_expr.specs.Given.{printTold};
-ghost use Rattle.create_cel_expr.specs.Judged.{ours, judgedAs, Judges, printing};
+ghost use Rattle.parser.specs.Set.{stringSet};
+ghost use Rattle.create_cel_expr.specs.Judged.{judgedAs, Judges, printing};
 
 // Document 01's answer of printing.
 pub struct Printed {
@@ -44,15 +45,15 @@ pub const OUTPUT_TOO_SHORT: u32 = 24;
 
 // Judges a policy given by anyone: its shape, then every span, then every string's bytes.
 pub fn judge_policy(policy: Policy, text: &[u8], spans: &[u32]) -> Judged
-    ensures { λ r. ⌜ judgedAs r ≡ judgement ours (numbers policy) (now (spans .entry)) (now (text .entry)) ⌝ }
+    ensures { λ r. ⌜ judgedAs r ≡ judgement stringSet (numbers policy) (now (spans .entry)) (now (text .entry)) ⌝ }
 {
-    judge::over_ours(policy, text, spans)
+    judge::over_set(policy, text, spans)
 }
 
 // Writes the policy's text to the front of `out`, or refuses with 20 to 24 and leaves `out` as it is.
 pub fn print_policy(policy: Policy, text: &[u8], spans: &[u32], out: &mut [u8]) -> Printed
-    ensures answer { λ r. ⌜ printTold r ≡ printAnswer ours (numbers policy) (now (spans .entry)) (now (text .entry)) (length (now (out .entry))) ⌝ }
-    ensures output { λ r. ⌜ now (out .exit) ≡ printOutput ours (numbers policy) (now (spans .entry)) (now (text .entry)) (now (out .entry)) ⌝ }
+    ensures answer { λ r. ⌜ printTold r ≡ printAnswer stringSet (numbers policy) (now (spans .entry)) (now (text .entry)) (length (now (out .entry))) ⌝ }
+    ensures output { λ r. ⌜ now (out .exit) ≡ printOutput stringSet (numbers policy) (now (spans .entry)) (now (text .entry)) (now (out .entry)) ⌝ }
 {
     let judged = judge_policy(policy, text, spans);
     print_judged(judged, policy, text, spans, out)

@@ -1,5 +1,5 @@
 -- `print_policy` meets its contract: what is judged, then what is printed. Assumes nothing.
-use Rattle.create_cel_expr.specs.Judged.{ours}
+use Rattle.parser.specs.Set.{stringSet}
 use Rattle.cel_policy.specs.Policy.{numbers}
 use Rattle.create_cel_expr.proofs.Judgings.{told-by}
 use Rattle.create_cel_expr.proofs.print_policy.Statement.{statement}
@@ -10,7 +10,7 @@ judge-policy-requires : tie.Need-judge-policy-requires
 judge-policy-requires c κs = search needs
 
 print-judged-requires : tie.Need-print-judged-requires
-print-judged-requires c κs = record { set = ours; same = c .before .judge-policy .ensures }
+print-judged-requires c κs = record { set = stringSet; same = c .before .judge-policy .ensures }
 
 same-length : tie.Need-same-length
 same-length c = search needs
@@ -18,7 +18,7 @@ same-length c = search needs
 returns : tie.Need-returns
 returns c =
     let s = c .before .before .before .before .before .before .before .before in
-    told-by (numbers (s .args .policy)) (s .args .spans .now) (s .args .text .now) (c .before .before .before .before .judge-policy .result) (s .args .out .now) ours (c .before .before .before .before .judge-policy .ensures) (c .before .before .print-judged .ensures)
+    told-by (numbers (s .args .policy)) (s .args .spans .now) (s .args .text .now) (c .before .before .before .before .judge-policy .result) (s .args .out .now) stringSet (c .before .before .before .before .judge-policy .ensures) (c .before .before .print-judged .ensures)
 
 pub print-policy-spec : {M : Type 1} → statement M
 print-policy-spec =

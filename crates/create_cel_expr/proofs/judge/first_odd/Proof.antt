@@ -2,7 +2,7 @@
 use mathlib.Core.Path.{subst}
 use native.Mathlib.Nat.{sub-zero, zero-add}
 use Rattle.cel_policy.specs.Laws.Judging.{Inside}
-use Rattle.create_cel_expr.specs.Judged.{ours}
+use Rattle.parser.specs.Set.{stringSet}
 use Prim.Native.Nat.{_-_}
 use Rattle.cel_policy.specs.Answers.{bytesFit}
 use Rattle.create_cel_expr.proofs.Faults.{Searched, search-on, search-found, search-over}
@@ -11,7 +11,7 @@ use Rattle.create_cel_expr.proofs.judge.first_odd.Tie as tie
 use borrow.Author.Needs.{needs}
 
 abbrev Inv-loop : tie.InvT-loop
-Inv-loop text spans count i₀ i = Searched (bytesFit ours spans text) count i
+Inv-loop text spans count i₀ i = Searched (bytesFit stringSet spans text) count i
 
 abbrev μ-loop : tie.MeasureT-loop
 μ-loop text spans count i₀ i = count - i
@@ -27,7 +27,7 @@ plain-requires c κs =
 returns : tie.Need-returns Inv-loop μ-loop
 returns c =
     let s = c .before .before .before .before .before .before in
-    search-found (bytesFit ours (s .args .spans .now) (s .args .text .now)) (s .args .count) 22 (c .before .before .loop-test .taken) (c .before .plain .ensures) (c .if1 .taken) (c .before .before .before .loop .inv)
+    search-found (bytesFit stringSet (s .args .spans .now) (s .args .text .now)) (s .args .count) 22 (c .before .before .loop-test .taken) (c .before .plain .ensures) (c .if1 .taken) (c .before .before .before .loop .inv)
 
 add-i : tie.Need-add-i Inv-loop μ-loop
 add-i c = search needs
@@ -38,12 +38,12 @@ loop-less c = search needs
 loop-again : tie.Need-loop-again Inv-loop μ-loop
 loop-again c =
     let s = c .before .before .before .before .before .before in
-    search-on (bytesFit ours (s .args .spans .now) (s .args .text .now)) (s .args .count) (c .before .before .loop-test .taken) (c .before .plain .ensures) (c .if1 .left) (c .before .before .before .loop .inv)
+    search-on (bytesFit stringSet (s .args .spans .now) (s .args .text .now)) (s .args .count) (c .before .before .loop-test .taken) (c .before .plain .ensures) (c .if1 .left) (c .before .before .before .loop .inv)
 
 returns-2 : tie.Need-returns-2 Inv-loop μ-loop
 returns-2 c =
     let s = c .before .before .before .before in
-    search-over (bytesFit ours (s .args .spans .now) (s .args .text .now)) (s .args .count) 22 (c .loop-test .left) (c .before .loop .inv)
+    search-over (bytesFit stringSet (s .args .spans .now) (s .args .text .now)) (s .args .count) 22 (c .loop-test .left) (c .before .loop .inv)
 
 pub first-odd-spec : {M : Type 1} → statement M
 first-odd-spec =

@@ -1,9 +1,9 @@
--- `judge::over_ours` meets its contract: what is judged over all bytes, then 22. Assumes nothing.
+-- `judge::over_set` meets its contract: what is judged over all bytes, then 22. Assumes nothing.
 use Rattle.cel_policy.specs.Policy.{numbers}
-use Rattle.create_cel_expr.specs.Judged.{ours}
+use Rattle.parser.specs.Set.{stringSet}
 use Rattle.create_cel_expr.proofs.Judgings.{judged-faulty, judged-inside, judged-22}
-use Rattle.create_cel_expr.proofs.judge.over_ours.Statement.{statement}
-use Rattle.create_cel_expr.proofs.judge.over_ours.Tie as tie
+use Rattle.create_cel_expr.proofs.judge.over_set.Statement.{statement}
+use Rattle.create_cel_expr.proofs.judge.over_set.Tie as tie
 use borrow.Author.Needs.{needs}
 
 over-any-requires : tie.Need-over-any-requires
@@ -26,15 +26,15 @@ first-odd-requires c κs =
 returns : tie.Need-returns
 returns c =
     let s = c .before .before .before .before .before in
-    judged-faulty (numbers (s .args .policy)) (s .args .spans .now) (s .args .text .now) (c .before .before .over-any .result) (c .before .before .over-any .ensures) ours (c .enum-told .given .1)
+    judged-faulty (numbers (s .args .policy)) (s .args .spans .now) (s .args .text .now) (c .before .before .over-any .result) (c .before .before .over-any .ensures) stringSet (c .enum-told .given .1)
 
 returns-2 : tie.Need-returns-2
 returns-2 c =
     let s = c .before .before .before .before .before .before .before in
-    judged-22 (numbers (s .args .policy)) (s .args .spans .now) (s .args .text .now) (c .before .before .before .before .over-any .result) (c .before .before .before .before .over-any .ensures) ours (c .before .before .enum-told2 .given .1) (c .before .count .ensures) (c .first-odd .ensures)
+    judged-22 (numbers (s .args .policy)) (s .args .spans .now) (s .args .text .now) (c .before .before .before .before .over-any .result) (c .before .before .before .before .over-any .ensures) stringSet (c .before .before .enum-told2 .given .1) (c .before .count .ensures) (c .first-odd .ensures)
 
-pub over-ours-spec : {M : Type 1} → statement M
-over-ours-spec =
+pub over-set-spec : {M : Type 1} → statement M
+over-set-spec =
     tie.close
     (tie.spec
     over-any-requires
