@@ -9,7 +9,7 @@ use lib.Dec.{eqb}
 use borrow.Author.Tests.{eqb-true, eqb-false}
 use Rattle.cel_text.specs.Byte.{Text, blank}
 use Rattle.cel_text.specs.Reading.{before, value, begun, fresh}
-use Rattle.cel_text.specs.Table.{Words}
+use Rattle.cel_text.specs.Table.{Words, rowWords}
 use Rattle.parser.specs.declared.Step.{Step}
 use Rattle.parser.specs.declared.Step.the-variants.{Next, Refused}
 use Rattle.parser.specs.declared.Place.{Place}
@@ -35,7 +35,7 @@ module _ {x : Text} {at kind from to o : ℕ} (h : Headed x at kind from to o) (
     string-up w w′ k (Next q′ m d) v = whole-from (at-string h n left e k) (value-later h n left e) (v o left (e .next))
     string-up w w′ k (Refused r p) v = refused-from (at-string h n left e k) (v o left)
 
-    pub list-up : (w w₁ w₂ : Words) (left′ : ℕ) → (kind ≡ 1 → ⊥) → left ≡ suc left′ → w₁ ≡ sets w (8 * n) (kind ∷ from ∷ to ∷ kf ∷ kt ∷ u ∷ [])
+    pub list-up : (w w₁ w₂ : Words) (left′ : ℕ) → (kind ≡ 1 → ⊥) → left ≡ suc left′ → w₁ ≡ sets w (rowWords * n) (kind ∷ from ∷ to ∷ kf ∷ kt ∷ u ∷ [])
         → (s : Step) → Listed x w₁ w₂ q n kind left′ s → Valued x w w₂ at n left kf kt u s
     list-up w w₁ w₂ left′ k hl hw (Next q′ m d) v = value-list h n left e k hl hw v
     list-up w w₁ w₂ left′ k hl hw (Refused r p) v =

@@ -8,11 +8,12 @@ use lib.ListN.{length, drop, getD}
 use lib.Seq.{sets, length-sets}
 use lib.Dec.{eqb}
 use borrow.Author.Tests.{ne-eqb, eqb-true, eqb-false}
-use Rattle.cel_text.specs.Byte.{Text, blank, stringByte, colon, comma}
+use Rattle.cel_text.specs.Byte.{Text, blank, colon, comma}
 use Rattle.cel_text.specs.Tree.{Kind, array, object, function, closer, Key, key, unkeyed, container, Trees, ∅, _▸_∶_, nodesAll, depthAll, count}
-use Rattle.cel_text.specs.Reading.{Stack, inside, Frame, value, entry, State, before, begun, after, Step, go, refuse, syntax, refused, child, fresh, past, limits, withKey}
-use Rattle.cel_text.specs.Table.{Words, rowsOf, rowsAll, keyFrom, keyTo}
+use Rattle.cel_text.specs.Reading.{Stack, inside, Frame, value, entry, State, before, begun, after, Step, go, refuse, syntax, refused, child, fresh, past, limits, maxNodes, withKey}
+use Rattle.cel_text.specs.Table.{Words, rowsOf, rowsAll, keyFrom, keyTo, rowWords}
 use Rattle.cel_text.specs.Laws.Run.{whole-resumes}
+use Rattle.parser.specs.Set.{stringSet}
 use Rattle.parser.specs.Run.{endOf, NamedAt}
 use Rattle.parser.specs.Kinds.{kindOf}
 use Rattle.parser.specs.Steps.{reads, goesOn, Around, RefusedBy, Whole, WholeList, Labelled, Coloned, Colonless}
@@ -36,11 +37,11 @@ pub record Labelling (x : Text) (c : Kind) (p kf kt q : ℕ) : Type 0 where
   pub fromIn : kf ≤ length x
   pub toIn : kt ≤ length x
 
-entry-goes : (K : Stack) (f : Frame) (from to p b : ℕ) → b ≡ colon → past stringByte limits (entry K f) from to p b ≡ go (before (value (inside K (withKey f (key from to)))))
+entry-goes : (K : Stack) (f : Frame) (from to p b : ℕ) → b ≡ colon → past stringSet limits (entry K f) from to p b ≡ go (before (value (inside K (withKey f (key from to)))))
 unfolding past
 entry-goes K f from to p b e = rw e
 
-entry-stops : (K : Stack) (f : Frame) (from to p b : ℕ) → (b ≡ colon → ⊥) → past stringByte limits (entry K f) from to p b ≡ refuse syntax
+entry-stops : (K : Stack) (f : Frame) (from to p b : ℕ) → (b ≡ colon → ⊥) → past stringSet limits (entry K f) from to p b ≡ refuse syntax
 unfolding past
 entry-stops K f from to p b h = rw (ne-eqb b colon h)
 
@@ -99,15 +100,15 @@ pub record Sofar (st : Stack → Frame → State) (x : Text) (w w′ : Words) (a
   pub counts : m ≡ suc n + nodesAll children
   pub number : i ≡ count children
   pub deep : d ≡ depthAll children
-  pub rows : w′ ≡ sets w (8 * suc n) (rowsAll children (suc n) (suc n))
+  pub rows : w′ ≡ sets w (rowWords * suc n) (rowsAll children (suc n) (suc n))
   pub later : at ≤ p
   pub within : p ≤ length x
-  pub room : m ≤ 256
+  pub room : m ≤ maxNodes
   pub fewer : i + n < m
   pub shallow : d ≤ left
 
 pub sofar-length : {st : Stack → Frame → State} {x : Text} {w w′ : Words} {at n : ℕ} {c : Kind} {left p m i d : ℕ} → Sofar st x w w′ at n c left p m i d → length w′ ≡ length w
-sofar-length {w = w} {n = n} s = ap length (s .rows) ∙ length-sets w (8 * suc n) (rowsAll (s .children) (suc n) (suc n))
+sofar-length {w = w} {n = n} s = ap length (s .rows) ∙ length-sets w (rowWords * suc n) (rowsAll (s .children) (suc n) (suc n))
 
 -- where a child is due, and where one has been read
 abbrev pub Due-child : (x : Text) (w w′ : Words) (at n : ℕ) (c : Kind) (left p m i d : ℕ) → Type 0
@@ -116,7 +117,7 @@ Due-child x w w′ at n c left p m i d = Sofar (λ K f. before (child c K f)) x 
 abbrev pub Read-child : (x : Text) (w w′ : Words) (at n : ℕ) (c : Kind) (left p m i d : ℕ) → Type 0
 Read-child x w w′ at n c left p m i d = Sofar (λ K f. after K f) x w w′ at n c left p m i d
 
-module _ {x : Text} {at p n left : ℕ} {c : Kind} (e : p ≡ endOf blank x at) (hi : at ≤ length x) (few : n + 1 ≤ 256) where
+module _ {x : Text} {at p n left : ℕ} {c : Kind} (e : p ≡ endOf blank x at) (hi : at ≤ length x) (few : n + 1 ≤ maxNodes) where
   pub first-child : {w : Words} → (getD x p 0 ≡ closer c → ⊥) → Due-child x w w at n c left p (n + 1) 0 0
   first-child h =
       record {
@@ -134,12 +135,12 @@ module _ {x : Text} {at p n left : ℕ} {c : Kind} (e : p ≡ endOf blank x at) 
       }
 
   -- a container without children
-  pub empty-list : {w w′ : Words} → getD x p 0 ≡ closer c → w′ ≡ sets w (8 * n + 6) (0 ∷ (n + 1) ∷ []) → WholeList x w w′ at n c left (p + 1) (n + 1) 1
+  pub empty-list : {w w′ : Words} → getD x p 0 ≡ closer c → w′ ≡ sets w (rowWords * n + 6) (0 ∷ (n + 1) ∷ []) → WholeList x w w′ at n c left (p + 1) (n + 1) 1
   empty-list h hw =
       let inside-text : p < length x = byte-within x p (λ z. closer-some c (sym h ∙ z)) in
       record {
         children = ∅;
-        reading = λ K o from to a. rw add-one (begun-closes K (fresh c o from to) x at p e h ∙ whole-resumes stringByte limits K (container c o from to (suc p) ∅) p (drop (suc p) x));
+        reading = λ K o from to a. rw add-one (begun-closes K (fresh c o from to) x at p e h ∙ whole-resumes stringSet limits K (container c o from to (suc p) ∅) p (drop (suc p) x));
         counts = omega arith;
         deep = refl;
         rows = hw;
@@ -160,7 +161,7 @@ module _ {x : Text} {w w′ : Words} {at n : ℕ} {c : Kind} {left p m i d : ℕ
 
     pub child-read : {w″ : Words} {u q′ m′ d′ d″ : ℕ} → u ≡ suc n → d″ ≡ max d d′ → Whole (λ K. before (value K)) x w′ w″ q m left kf kt u q′ m′ d′ → Read-child x w w″ at n c left q′ m′ (i + 1) d″
     child-read {w″ = w″} {u = u} {m′ = m′} hu hd v =
-        let child-rows : w″ ≡ sets w′ (8 * m) (rowsOf (v .tree) (l .label) u m) = v .rows (l .label) (l .keyfrom) (l .keyto) in
+        let child-rows : w″ ≡ sets w′ (rowWords * m) (rowsOf (v .tree) (l .label) u m) = v .rows (l .label) (l .keyfrom) (l .keyto) in
         record {
           children = s .children ▸ l .label ∶ v .tree;
           reading = λ K o from to a. to-value K o from to a ∙ v .reading (inside K (framed c o from to (s .children) (l .label))) (around-child a (s .counts));
@@ -210,13 +211,13 @@ module _ {x : Text} {w w′ : Words} {at n : ℕ} {c : Kind} {left p m i d : ℕ
         shallow = s .shallow;
       }
 
-  pub list-closed : {w″ : Words} → getD x q 0 ≡ closer c → w″ ≡ sets w′ (8 * n + 6) (i ∷ m ∷ []) → WholeList x w w″ at n c left (q + 1) m (d + 1)
+  pub list-closed : {w″ : Words} → getD x q 0 ≡ closer c → w″ ≡ sets w′ (rowWords * n + 6) (i ∷ m ∷ []) → WholeList x w w″ at n c left (q + 1) m (d + 1)
   list-closed h hw =
       let inside-text : q < length x = byte-within x q (λ z. closer-some c (sym h ∙ z)) in
       record {
         children = s .children;
         reading = λ K o from to a. rw add-one (s .reading K o from to a ∙ after-closes K (framed c o from to (s .children) unkeyed) x p q e h
-            ∙ whole-resumes stringByte limits K (container c o from to (suc q) (s .children)) q (drop (suc q) x));
+            ∙ whole-resumes stringSet limits K (container c o from to (suc q) (s .children)) q (drop (suc q) x));
         counts = s .counts;
         deep = omega (arith, s .deep);
         rows = hw ∙ rw (s .rows, s .number);

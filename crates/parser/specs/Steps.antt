@@ -5,12 +5,13 @@ use Prim.Native.Nat.{ℕ, suc, _+_, _*_, _≤_, _<_}
 use mathlib.Core.List.{[], _∷_}
 use lib.ListN.{length, drop, getD}
 use lib.Seq.{sets}
-use Rattle.cel_text.specs.Byte.{Text, stringByte, colon}
+use Rattle.cel_text.specs.Byte.{Text, colon}
 use Rattle.cel_text.specs.Tree.{Kind, Key, Tree, Trees, container, nodes, nodesAll, depth, depthAll, count}
 use Rattle.cel_text.specs.Reading.{Stack, level, opened, State, before, value, quoted, begun, fresh, Fault, Outcome, refused, follow, refuse, go, run, limits, maxDepth, maxNodes}
-use Rattle.cel_text.specs.Table.{Words, rowsOf, rowsAll, kindNumber, keyFrom, keyTo, nodeWords}
+use Rattle.cel_text.specs.Table.{Words, rowsOf, rowsAll, kindNumber, keyFrom, keyTo, rowWords, nodeWords}
 use Rattle.cel_text.specs.Answer.{faultNumber, maxText}
 use Rattle.cel_text.specs.Laws.Run.{resume}
+use Rattle.parser.specs.Set.{stringSet}
 use Rattle.parser.specs.declared.Step.{Step}
 use Rattle.parser.specs.declared.Step.the-variants.{Next, Refused}
 use Rattle.parser.specs.Run.{NamedAt}
@@ -18,7 +19,7 @@ use Rattle.parser.specs.Kinds.{kindOf, opens, openState}
 
 -- the machine at place p of x
 abbrev pub reads : State → Text → ℕ → Outcome
-reads st x p = run stringByte limits st p (drop p x)
+reads st x p = run stringSet limits st p (drop p x)
 
 -- what the step s at place p leads to
 abbrev pub goesOn : Rattle.cel_text.specs.Reading.Step → Text → ℕ → Outcome
@@ -75,10 +76,10 @@ Opens kind p n left (Refused r q) = Barred kind p n left r (q .0)
 -- a whole value, from a state for each stack around: its tree, the place after it, its nodes, its depth and its rows
 pub record Whole (st : Stack → State) (x : Text) (w w′ : Words) (at n left kf kt u q m d : ℕ) : Type 0 where
   pub tree : Tree
-  pub reading : (K : Stack) → Around K n left → reads (st K) x at ≡ resume stringByte limits K tree q (drop q x)
+  pub reading : (K : Stack) → Around K n left → reads (st K) x at ≡ resume stringSet limits K tree q (drop q x)
   pub counts : m ≡ n + nodes tree
   pub deep : d ≡ depth tree
-  pub rows : (k : Key) → keyFrom k ≡ kf → keyTo k ≡ kt → w′ ≡ sets w (8 * n) (rowsOf tree k u n)
+  pub rows : (k : Key) → keyFrom k ≡ kf → keyTo k ≡ kt → w′ ≡ sets w (rowWords * n) (rowsOf tree k u n)
   pub later : at < q
   pub within : q ≤ length x
   pub more : n < m
@@ -116,10 +117,10 @@ Keyed x p kind (Refused r q) = Colonless x p kind r (q .0)
 -- a whole list and its container's closer: the rows of the children, and the words of the container's row that are known now
 pub record WholeList (x : Text) (w w′ : Words) (at n : ℕ) (c : Kind) (left q m d : ℕ) : Type 0 where
   pub children : Trees
-  pub reading : (K : Stack) (o from to : ℕ) → Around K n (suc left) → reads (begun K (fresh c o from to)) x at ≡ resume stringByte limits K (container c o from to q children) q (drop q x)
+  pub reading : (K : Stack) (o from to : ℕ) → Around K n (suc left) → reads (begun K (fresh c o from to)) x at ≡ resume stringSet limits K (container c o from to q children) q (drop q x)
   pub counts : m ≡ suc n + nodesAll children
   pub deep : d ≡ suc (depthAll children)
-  pub rows : w′ ≡ sets (sets w (8 * suc n) (rowsAll children (suc n) (suc n))) (8 * n + 6) (count children ∷ m ∷ [])
+  pub rows : w′ ≡ sets (sets w (rowWords * suc n) (rowsAll children (suc n) (suc n))) (rowWords * n + 6) (count children ∷ m ∷ [])
   pub later : at < q
   pub within : q ≤ length x
   pub room : m ≤ maxNodes

@@ -3,6 +3,9 @@ ghost use mathlib.Core.Path.{_≡_};
 ghost use Prim.Native.Nat.{_≤_, _<_, _+_, max};
 ghost use lib.ListN.{length};
 ghost use Rattle.cel_text.specs.Tree.{closer};
+ghost use Rattle.cel_text.specs.Reading.{maxNodes};
+ghost use Rattle.cel_text.specs.Table.{nodeWords};
+ghost use Rattle.cel_text.specs.Answer.{maxText};
 ghost use Rattle.parser.specs.Kinds.{kindOf, openerKind};
 ghost use Rattle.parser.specs.Steps.{Headed, Opens, Labelled, Keyed, Ready, Valued, Quoted, Listed};
 use crate::ARRAY;
@@ -17,6 +20,7 @@ use crate::Step;
 use crate::TOO_DEEP;
 use crate::TOO_MANY;
 use crate::row;
+use crate::row::Parent;
 use crate::scan;
 use crate::scan::Class;
 use crate::scan::Name;
@@ -68,7 +72,7 @@ fn opening(text: &[u8], at: Place) -> Head
     requires { ⌜ at .0 ≤ length (now text) ⌝ }
     ensures { λ r. ⌜ Headed (now (text .entry)) (at .0) (r .kind) (r .from .0) (r .to .0) (r .at .0) ⌝ }
 {
-    let name = scan::ident(text, at);
+    let name = scan::trimmed_ident(text, at);
     let from = name.from;
     let to = name.to;
     let end = name.end;
@@ -91,7 +95,7 @@ fn opening(text: &[u8], at: Place) -> Head
 
 // The limits, and the place after the opener. Of two refusals at one place 5 comes before 6.
 fn enter(kind: u32, at: Place, node: Node, left: usize) -> Step
-    requires { ⌜ (at .0 ≤ 8192) × (node .0 ≤ 256) ⌝ }
+    requires { ⌜ (at .0 ≤ maxText) × (node .0 ≤ maxNodes) ⌝ }
     ensures { λ r. ⌜ Opens kind (at .0) (node .0) left r ⌝ }
 {
     if kind == 0 {
@@ -112,7 +116,7 @@ fn enter(kind: u32, at: Place, node: Node, left: usize) -> Step
     Step::Next(Place(at.0 + 1), Node(node.0 + 1), 1)
 }
 
-// A value, with the key and the parent's word that its row shows.
+// A value, with the key and the parent that its row shows.
 pub(crate) fn cel_value(
     text: &[u8],
     table: &mut [u32],
@@ -121,11 +125,11 @@ pub(crate) fn cel_value(
     left: usize,
     keyfrom: Place,
     keyto: Place,
-    parent: u32,
+    parent: Parent,
 ) -> Step
     requires { ⌜ Ready (now text) (now table) (at .0) (node .0) left ⌝ }
-    requires { ⌜ (keyfrom .0 ≤ 8192) × (keyto .0 ≤ 8192) ⌝ }
-    ensures { λ r. ⌜ Valued (now (text .entry)) (now (table .entry)) (now (table .exit)) (at .0) (node .0) left (keyfrom .0) (keyto .0) parent r ⌝ }
+    requires { ⌜ (keyfrom .0 ≤ maxText) × (keyto .0 ≤ maxText) ⌝ }
+    ensures { λ r. ⌜ Valued (now (text .entry)) (now (table .entry)) (now (table .exit)) (at .0) (node .0) left (keyfrom .0) (keyto .0) (parent .0) r ⌝ }
 {
     let head = opening(text, at);
     let kind = head.kind;
@@ -157,13 +161,13 @@ fn string(
     node: Node,
     keyfrom: Place,
     keyto: Place,
-    parent: u32,
+    parent: Parent,
 ) -> Step
-    requires { ⌜ (at .0 ≤ length (now text)) × (length (now text) ≤ 8192) × (node .0 < 256) × (length (now table) ≡ 2048) ⌝ }
-    requires { ⌜ (keyfrom .0 ≤ 8192) × (keyto .0 ≤ 8192) ⌝ }
-    ensures { λ r. ⌜ Quoted (now (text .entry)) (now (table .entry)) (now (table .exit)) (at .0) (node .0) (keyfrom .0) (keyto .0) parent r ⌝ }
+    requires { ⌜ (at .0 ≤ length (now text)) × (length (now text) ≤ maxText) × (node .0 < maxNodes) × (length (now table) ≡ nodeWords) ⌝ }
+    requires { ⌜ (keyfrom .0 ≤ maxText) × (keyto .0 ≤ maxText) ⌝ }
+    ensures { λ r. ⌜ Quoted (now (text .entry)) (now (table .entry)) (now (table .exit)) (at .0) (node .0) (keyfrom .0) (keyto .0) (parent .0) r ⌝ }
 {
-    let to = scan::run_of(text, at, Class::Content);
+    let to = scan::run_of(text, at, Class::StringByte);
     let end = scan::run_of(text, to, Class::Blank);
     if scan::peek(text, end) != b'"' {
         return Step::Refused(SYNTAX, end);
@@ -179,7 +183,7 @@ fn label(text: &[u8], at: Place, kind: u32) -> Name
     ensures { λ r. ⌜ Labelled (now (text .entry)) (at .0) kind (r .from .0) (r .to .0) (r .end .0) ⌝ }
 {
     if kind == OBJECT {
-        return scan::ident(text, at);
+        return scan::trimmed_ident(text, at);
     }
     Name {
         from: Place(0),
@@ -221,7 +225,7 @@ fn list(text: &[u8], table: &mut [u32], at: Place, node: Node, kind: u32, left: 
         row::close_row(table, node, 0, next);
         return Step::Next(Place(from.0 + 1), next, 1);
     }
-    let parent = (node.0 + 1) as u32;
+    let parent = Parent((node.0 + 1) as u32);
     let mut count = 0;
     let mut depth = 0;
     loop {

@@ -119,7 +119,7 @@ cel-value-enum-told t c = search needs
 cel-value-returns : (t : ℕ) → cel-value-lts.Need-returns (cel-value-claims t) (cel-value-at t) cel-value.Post
 cel-value-returns t c =
     let a = c .before .before .before .before .before .before .args in
-    barred-up (c .before .before .before .opening .ensures) (a .node .0) (a .left) (a .table .now) _ (a .keyfrom .0) (a .keyto .0) (a .parent) (c .enum-told .given .1) (c .before .before .enter .ensures)
+    barred-up (c .before .before .before .opening .ensures) (a .node .0) (a .left) (a .table .now) _ (a .keyfrom .0) (a .keyto .0) (a .parent .0) (c .enum-told .given .1) (c .before .before .enter .ensures)
 
 cel-value-string-requires : (t : ℕ) → cel-value-lts.Need-string-requires (cel-value-claims t) (cel-value-at t) cel-value.Post
 cel-value-string-requires t c κs =
@@ -133,7 +133,7 @@ cel-value-same-length t c = c .before .before .string .kept .1 .0
 cel-value-returns-2 : (t : ℕ) → cel-value-lts.Need-returns-2 (cel-value-claims t) (cel-value-at t) cel-value.Post
 cel-value-returns-2 t c =
     let a = c .before .before .before .before .before .before .before .before .before .before .before .before .args in
-    string-up (c .before .before .before .before .before .before .before .before .before .opening .ensures) (a .node .0) (a .left) (cel-value-entered t (c .before .before .before .before .before .before)) (a .keyfrom .0) (a .keyto .0) (a .parent) (a .table .now) (c .before .before .string .last .1 .0) (c .before .before .before .before .if1 .taken) (c .before .before .string .result) (c .before .before .string .ensures)
+    string-up (c .before .before .before .before .before .before .before .before .before .opening .ensures) (a .node .0) (a .left) (cel-value-entered t (c .before .before .before .before .before .before)) (a .keyfrom .0) (a .keyto .0) (a .parent .0) (a .table .now) (c .before .before .string .last .1 .0) (c .before .before .before .before .if1 .taken) (c .before .before .string .result) (c .before .before .string .ensures)
 
 cel-value-open-row-requires : (t : ℕ) → cel-value-lts.Need-open-row-requires (cel-value-claims t) (cel-value-at t) cel-value.Post
 cel-value-open-row-requires t c κs =
@@ -160,7 +160,7 @@ cel-value-returns-3 t c =
     let a = c .before .before .before .before .before .before .before .before .before .before .before .before .before .before .before .before .args in
     let e = cel-value-entered t (c .before .before .before .before .before .before .before .before .before .before) in
     let h : a .left ≡ suc (a .left - 1) = omega (arith, e .deeper (c .before .before .before .before .before .before .before .before .if1 .left)) in
-    list-up (c .before .before .before .before .before .before .before .before .before .before .before .before .before .opening .ensures) (a .node .0) (a .left) e (a .keyfrom .0) (a .keyto .0) (a .parent) (a .table .now) (c .before .before .before .before .before .before .open-row .last .0) (c .before .before .list .last .1 .0) (a .left - 1) (c .before .before .before .before .before .before .before .before .if1 .left) h (c .before .before .before .before .before .before .open-row .ensures) (c .before .before .list .result) (c .before .before .list .ensures)
+    list-up (c .before .before .before .before .before .before .before .before .before .before .before .before .before .opening .ensures) (a .node .0) (a .left) e (a .keyfrom .0) (a .keyto .0) (a .parent .0) (a .table .now) (c .before .before .before .before .before .before .open-row .last .0) (c .before .before .list .last .1 .0) (a .left - 1) (c .before .before .before .before .before .before .before .before .if1 .left) h (c .before .before .before .before .before .before .open-row .ensures) (c .before .before .list .result) (c .before .before .list .ensures)
 
 list-closer-byte-requires : (t : ℕ) → list-lts.Need-closer-byte-requires (list-claims t) (list-at t) list.Post list-Inv-loop list-μ-loop
 list-closer-byte-requires t c κs = search needs
@@ -168,8 +168,8 @@ list-closer-byte-requires t c κs = search needs
 list-run-of-requires : (t : ℕ) → list-lts.Need-run-of-requires (list-claims t) (list-at t) list.Post list-Inv-loop list-μ-loop
 list-run-of-requires t c κs = search needs
 
-list-add-parent : (t : ℕ) → list-lts.Need-add-parent (list-claims t) (list-at t) list.Post list-Inv-loop list-μ-loop
-list-add-parent t c = omega (arith, c .before .before .before .before .before .pre .1)
+list-add-t23 : (t : ℕ) → list-lts.Need-add-t23 (list-claims t) (list-at t) list.Post list-Inv-loop list-μ-loop
+list-add-t23 t c = omega (arith, c .before .before .before .before .before .pre .1)
 
 list-peek-requires : (t : ℕ) → list-lts.Need-peek-requires (list-claims t) (list-at t) list.Post list-Inv-loop list-μ-loop
 list-peek-requires t c κs = search needs
@@ -189,11 +189,11 @@ list-same-length t c = c .before .before .before .close-row .kept .0
 list-returns : (t : ℕ) → list-lts.Need-returns (list-claims t) (list-at t) list.Post list-Inv-loop list-μ-loop
 list-returns t c = empty-list (c .before .before .before .before .before .before .before .before .run-of .ensures) (c .before .before .before .before .before .before .before .before .before .before .before .before .pre .1 .inside) (c .before .before .before .before .before .before .before .before .before .before .before .before .pre .1 .few) (sym (c .before .before .before .before .before .before .peek .ensures) ∙ c .before .before .before .before .before .if1 .taken ∙ c .before .before .before .before .before .before .before .before .before .closer-byte .ensures) (c .before .before .before .close-row .ensures)
 
-list-add-parent-2 : (t : ℕ) → list-lts.Need-add-parent-2 (list-claims t) (list-at t) list.Post list-Inv-loop list-μ-loop
-list-add-parent-2 t c = omega (arith, c .before .before .before .before .before .before .before .before .pre .1)
+list-add-t23-2 : (t : ℕ) → list-lts.Need-add-t23-2 (list-claims t) (list-at t) list.Post list-Inv-loop list-μ-loop
+list-add-t23-2 t c = omega (arith, c .before .before .before .before .before .before .before .before .pre .1)
 
-list-cast-parent : (t : ℕ) → list-lts.Need-cast-parent (list-claims t) (list-at t) list.Post list-Inv-loop list-μ-loop
-list-cast-parent t c = omega (arith, c .before .before .before .before .before .before .before .before .pre .1)
+list-cast-t31 : (t : ℕ) → list-lts.Need-cast-t31 (list-claims t) (list-at t) list.Post list-Inv-loop list-μ-loop
+list-cast-t31 t c = omega (arith, c .before .before .before .before .before .before .before .before .pre .1)
 
 list-loop-holds : (t : ℕ) → list-lts.Need-loop-holds (list-claims t) (list-at t) list.Post list-Inv-loop list-μ-loop
 list-loop-holds t c =
@@ -262,11 +262,11 @@ list-close-row-requires-2 t c κs =
     let k = c .before .before .before .before .before .before .before .before .before .before .cel-value .kept .1 .0 ∙ sofar-length (c .before .before .before .before .before .before .before .before .before .before .before .before .before .before .before .before .before .loop .inv) ∙ c .before .before .before .before .before .before .before .before .before .before .before .before .before .before .before .before .before .before .before .before .before .before .before .before .before .before .pre .1 .counted in
     omega (arith, c .before .before .before .before .before .before .before .before .before .before .before .before .before .before .before .before .before .before .before .before .before .before .before .before .before .before .pre .1 .few, k, r .room, r .fewer)
 
-list-add-t38 : (t : ℕ) → list-lts.Need-add-t38 (list-claims t) (list-at t) list.Post list-Inv-loop list-μ-loop
-list-add-t38 t c = omega (arith, list-stop t (c .before .before .before .before .before .before .before), c .before .before .before .before .before .before .before .before .before .before .before .before .before .before .before .before .before .before .before .before .before .before .before .before .before .before .before .before .before .before .pre .1 .short)
+list-add-t39 : (t : ℕ) → list-lts.Need-add-t39 (list-claims t) (list-at t) list.Post list-Inv-loop list-μ-loop
+list-add-t39 t c = omega (arith, list-stop t (c .before .before .before .before .before .before .before), c .before .before .before .before .before .before .before .before .before .before .before .before .before .before .before .before .before .before .before .before .before .before .before .before .before .before .before .before .before .before .pre .1 .short)
 
-list-add-t40 : (t : ℕ) → list-lts.Need-add-t40 (list-claims t) (list-at t) list.Post list-Inv-loop list-μ-loop
-list-add-t40 t c =
+list-add-t41 : (t : ℕ) → list-lts.Need-add-t41 (list-claims t) (list-at t) list.Post list-Inv-loop list-μ-loop
+list-add-t41 t c =
     let r = list-read t (c .before .before .before .before .before .before .before .before) in
     omega (arith, r .shallow, c .before .before .before .before .before .before .before .before .before .before .before .before .before .before .before .before .before .before .before .before .before .before .before .before .before .before .before .before .before .before .pre .1 .fewLeft)
 
@@ -282,8 +282,8 @@ list-same-length-5 t c = c .before .before .before .before .before .before .befo
 list-returns-5 : (t : ℕ) → list-lts.Need-returns-5 (list-claims t) (list-at t) list.Post list-Inv-loop list-μ-loop
 list-returns-5 t c = list-whole t (c .before .before .before .before .before .before .before .before .before .before .before .before .before .before .before .before .before) (c .before .before .before .before .before .before .before .before .before .before .cel-value .last .1 .0) (Refused 4 _) (neither-refused (list-read t (c .before .before .before .before)) (c .before .before .before .run-of2 .result .0) (c .before .before .before .run-of2 .ensures) (λ e. c .before .if2 .left (c .before .before .peek2 .ensures ∙ e ∙ sym (c .before .before .before .before .before .before .before .before .before .before .before .before .before .before .before .before .before .before .before .before .before .before .before .closer-byte .ensures))) (λ e. c .if3 .taken (c .before .before .peek2 .ensures ∙ e)))
 
-list-add-t41 : (t : ℕ) → list-lts.Need-add-t41 (list-claims t) (list-at t) list.Post list-Inv-loop list-μ-loop
-list-add-t41 t c = omega (arith, list-stop t (c .before .before .before .before), c .before .before .before .before .before .before .before .before .before .before .before .before .before .before .before .before .before .before .before .before .before .before .before .before .before .before .before .pre .1 .short)
+list-add-t42 : (t : ℕ) → list-lts.Need-add-t42 (list-claims t) (list-at t) list.Post list-Inv-loop list-μ-loop
+list-add-t42 t c = omega (arith, list-stop t (c .before .before .before .before), c .before .before .before .before .before .before .before .before .before .before .before .before .before .before .before .before .before .before .before .before .before .before .before .before .before .before .before .pre .1 .short)
 
 list-loop-less : (t : ℕ) → list-lts.Need-loop-less (list-claims t) (list-at t) list.Post list-Inv-loop list-μ-loop
 list-loop-less t c =
@@ -320,14 +320,14 @@ pub +cel-value+list-spec : {M : Type 1} → statement M
     list-μ-loop
     (list-closer-byte-requires t)
     (list-run-of-requires t)
-    (list-add-parent t)
+    (list-add-t23 t)
     (list-peek-requires t)
     (list-close-row-requires t)
     (list-add-t29 t)
     (list-same-length t)
     (list-returns t)
-    (list-add-parent-2 t)
-    (list-cast-parent t)
+    (list-add-t23-2 t)
+    (list-cast-t31 t)
     (list-loop-holds t)
     (list-label-requires t)
     (list-colon-requires t)
@@ -345,12 +345,12 @@ pub +cel-value+list-spec : {M : Type 1} → statement M
     (list-run-of-requires-2 t)
     (list-peek-requires-2 t)
     (list-close-row-requires-2 t)
-    (list-add-t38 t)
-    (list-add-t40 t)
+    (list-add-t39 t)
+    (list-add-t41 t)
     (list-same-length-4 t)
     (list-returns-4 t)
     (list-same-length-5 t)
     (list-returns-5 t)
-    (list-add-t41 t)
+    (list-add-t42 t)
     (list-loop-less t)
     (list-loop-again t)

@@ -3,7 +3,8 @@ use mathlib.Core.Path.{sym, _∙_}
 use Prim.Native.Nat.{_≤_}
 use borrow.Author.Needs.{needs}
 use lib.ListN.{length}
-use Rattle.cel_text.specs.Byte.{blank, stringByte}
+use Rattle.cel_text.specs.Byte.{blank}
+use Rattle.parser.specs.Set.{stringSet}
 use Rattle.parser.proofs.Runs.{end-within}
 use Rattle.parser.proofs.Values.{string-refused, string-whole}
 use Rattle.parser.proofs.value.string.Statement.{statement}
@@ -30,7 +31,7 @@ add-t14 c = search needs
 open-row-requires : tie.Need-open-row-requires
 open-row-requires c κs =
     let a = c .before .before .before .before .before .before .before .before .args in
-    let h : c .before .before .before .before .before .run-of .result .0 ≤ length (a .text .now) = rw (c .before .before .before .before .before .run-of .ensures) (end-within stringByte (a .text .now) (a .at .0) (c .before .before .before .before .before .before .before .before .pre .0 .0)) in
+    let h : c .before .before .before .before .before .run-of .result .0 ≤ length (a .text .now) = rw (c .before .before .before .before .before .run-of .ensures) (end-within stringSet (a .text .now) (a .at .0) (c .before .before .before .before .before .before .before .before .pre .0 .0)) in
     omega arith
 
 close-row-requires : tie.Need-close-row-requires
@@ -39,7 +40,7 @@ close-row-requires c κs = search needs
 add-t14-2 : tie.Need-add-t14-2
 add-t14-2 c =
     let a = c .before .before .before .before .before .before .before .before .before .before .before .before .before .before .before .before .args in
-    let h : c .before .before .before .before .before .before .before .before .before .before .before .before .before .run-of .result .0 ≤ length (a .text .now) = rw (c .before .before .before .before .before .before .before .before .before .before .before .before .before .run-of .ensures) (end-within stringByte (a .text .now) (a .at .0) (c .before .before .before .before .before .before .before .before .before .before .before .before .before .before .before .before .pre .0 .0)) in
+    let h : c .before .before .before .before .before .before .before .before .before .before .before .before .before .run-of .result .0 ≤ length (a .text .now) = rw (c .before .before .before .before .before .before .before .before .before .before .before .before .before .run-of .ensures) (end-within stringSet (a .text .now) (a .at .0) (c .before .before .before .before .before .before .before .before .before .before .before .before .before .before .before .before .pre .0 .0)) in
     let h′ : c .before .before .before .before .before .before .before .before .before .before .before .before .run-of2 .result .0 ≤ length (a .text .now) = rw (c .before .before .before .before .before .before .before .before .before .before .before .before .run-of2 .ensures) (end-within blank (a .text .now) (c .before .before .before .before .before .before .before .before .before .before .before .before .before .run-of .result .0) h) in
     omega arith
 
