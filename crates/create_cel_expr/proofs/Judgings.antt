@@ -8,7 +8,8 @@ use Rattle.cel_text.specs.Byte.{Text}
 use Rattle.cel_text.specs.Table.{Words}
 use Rattle.cel_policy.specs.Policy.{Counted, stringCount, strings}
 use Rattle.cel_policy.specs.Printed.{printed, shaped, maxResponseOnly}
-use Rattle.cel_policy.specs.Answers.{placed, spanFits, bytesFit, anyByte, firstFault, Judgement, clean, faulty, unlessFaulty, judgement, unprinted, unlessJudged, sized, findPrint, PrintAnswer, printAnswered, printAnswer, printOutput}
+use Rattle.cel_policy.specs.Answers.{placed, spanFits, bytesFit, anyByte, firstFault, Judgement, clean, faulty, unlessFaulty, judgement}
+use Rattle.cel_policy.specs.Answers.{unprinted, unlessJudged, sized, findPrint, PrintAnswer, printAnswered, printAnswer, printOutput}
 use Rattle.cel_policy.specs.Laws.SpanTable.{Faultless, clean-faultless}
 use Rattle.cel_policy.specs.Laws.Judging.{AllInside, faultless-inside, shaped-few, SmallPlace, judgement-small, thenJudged, judgement-any, judgement-then}
 use Rattle.create_cel_expr.specs.declared.Judged.{Judged}
