@@ -11,7 +11,7 @@ use Rattle.cel_policy.specs.Policy.{Counted, stringCount, content}
 use Rattle.cel_policy.specs.Spans.{spanAt}
 use Rattle.cel_policy.specs.Printed.{joined, listText, total, listLength}
 use Rattle.cel_policy.specs.Laws.SpanTable.{length-spansAt}
-use Rattle.cel_policy.specs.Laws.Judging.{Inside, AllInside}
+use Rattle.cel_policy.specs.Laws.Judging.{SpanInside, SpansInside}
 use Rattle.pieces.specs.Pieces.{Wrote}
 use Rattle.pieces.specs.Laws.{wrote-none, wrote-then}
 use Rattle.create_cel_expr.specs.Given.{stringsAt, tooLong}
@@ -96,5 +96,5 @@ module _ (x : Text) (ws : Words) (begin count : ℕ) where
       ap listLength (left-first n) ∙ (rw (left-first n) (omega (arith, long, n)))
 
 -- what lies inside where all do: any strings of the policy that follow one another
-pub inside-part : {ws : Words} {x : Text} (k : Counted) → AllInside ws x (stringCount k) 0 → (b n : ℕ) → b + n ≤ stringCount k → AllInside ws x n b
-inside-part {ws = ws} {x = x} k all b n le i lt = subst (Inside ws x) (zero-add (b + i)) (all (b + i) (omega arith))
+pub inside-part : {ws : Words} {x : Text} (k : Counted) → SpansInside ws x (stringCount k) 0 → (b n : ℕ) → b + n ≤ stringCount k → SpansInside ws x n b
+inside-part {ws = ws} {x = x} k all b n le i lt = subst (SpanInside ws x) (zero-add (b + i)) (all (b + i) (omega arith))

@@ -1,7 +1,7 @@
 -- `judge::first_odd` meets its contract: at each turn the search from here on finds what the whole search finds. Assumes nothing.
 use mathlib.Core.Path.{subst}
 use native.Mathlib.Nat.{zero-add, sub-zero}
-use Rattle.cel_policy.specs.Laws.Judging.{Inside}
+use Rattle.cel_policy.specs.Laws.Judging.{SpanInside}
 use Rattle.parser.specs.Set.{stringSet}
 use Prim.Native.Nat.{_-_}
 use Rattle.cel_policy.specs.Answers.{bytesFit}
@@ -24,7 +24,7 @@ plain-requires c κs =
     let s = c .before .before .before .before in
     let a = s .args in
     let l = c .before .loop in
-    subst (Inside (a .spans .now) (a .text .now)) (zero-add (l .i)) (s .pre (l .i) (c .loop-test .taken))
+    subst (SpanInside (a .spans .now) (a .text .now)) (zero-add (l .i)) (s .pre (l .i) (c .loop-test .taken))
 
 returns : tie.Need-returns Inv-loop μ-loop
 returns c =

@@ -3,7 +3,7 @@ use mathlib.Core.Path.{subst}
 use Prim.Native.Nat.{_-_, _≤_}
 use native.Mathlib.Nat.{add-zero}
 use lib.Dec.{lit≤}
-use Rattle.cel_policy.specs.Laws.Judging.{Inside}
+use Rattle.cel_policy.specs.Laws.Judging.{SpanInside}
 use Rattle.pieces.specs.Laws.{wrote-length}
 use Rattle.create_cel_expr.proofs.Lists.{Going, wrote-empty, going-next, going-last}
 use Rattle.create_cel_expr.proofs.write.list.Statement.{statement}
@@ -26,7 +26,7 @@ first-requires : tie.Need-first-requires Inv-loop μ-loop
 first-requires c κs =
     let s = c .before .before .before .before .before in
     let a = s .args in
-    subst (Inside (a .spans .now) (a .text .now)) (add-zero (a .begin)) (s .pre 0 (omega (arith, c .before .if1 .left)))
+    subst (SpanInside (a .spans .now) (a .text .now)) (add-zero (a .begin)) (s .pre 0 (omega (arith, c .before .if1 .left)))
 
 loop-holds : tie.Need-loop-holds Inv-loop μ-loop
 loop-holds c = (lit≤ tt, λ out past w. w)
