@@ -3,6 +3,7 @@ ghost use mathlib.Core.Path.{_≡_};
 ghost use mathlib.Core.Bool.{_&&_};
 ghost use lib.Dec.{eqb};
 ghost use Rattle.cel_policy.specs.Names.{same, spelling};
+ghost use Rattle.pieces.specs.Pieces.{Wrote};
 
 pub const DEFAULT_CERTIFICATION: u32 = 1;
 
@@ -36,6 +37,39 @@ pub const RESPONSE_HEADER_LIST: u32 = 15;
 
 pub const HEADERS: u32 = 16;
 
+// How they are spelled.
+const DEFAULT_CERTIFICATION_BYTES: [u8; 21] = *b"default_certification";
+
+const VALIDATION_ARGS_BYTES: [u8; 14] = *b"ValidationArgs";
+
+const NO_CERTIFICATION_BYTES: [u8; 16] = *b"no_certification";
+
+const CERTIFICATION_BYTES: [u8; 13] = *b"certification";
+
+const CERTIFICATION_OBJECT_BYTES: [u8; 13] = *b"Certification";
+
+const NO_REQUEST_CERTIFICATION_BYTES: [u8; 24] = *b"no_request_certification";
+
+const REQUEST_CERTIFICATION_BYTES: [u8; 21] = *b"request_certification";
+
+const REQUEST_CERTIFICATION_OBJECT_BYTES: [u8; 20] = *b"RequestCertification";
+
+const CERTIFIED_REQUEST_HEADERS_BYTES: [u8; 25] = *b"certified_request_headers";
+
+const CERTIFIED_QUERY_PARAMETERS_BYTES: [u8; 26] = *b"certified_query_parameters";
+
+const RESPONSE_CERTIFICATION_BYTES: [u8; 22] = *b"response_certification";
+
+const RESPONSE_CERTIFICATION_OBJECT_BYTES: [u8; 21] = *b"ResponseCertification";
+
+const CERTIFIED_RESPONSE_HEADERS_BYTES: [u8; 26] = *b"certified_response_headers";
+
+const RESPONSE_HEADER_EXCLUSIONS_BYTES: [u8; 26] = *b"response_header_exclusions";
+
+const RESPONSE_HEADER_LIST_BYTES: [u8; 18] = *b"ResponseHeaderList";
+
+const HEADERS_BYTES: [u8; 7] = *b"headers";
+
 // Whether a and b hold the same bytes. The loop has no way out, so that it takes many bytes at a time.
 fn equal(a: &[u8], b: &[u8]) -> bool
     ensures { λ r. ⌜ r ≡ same (now (a .entry)) (now (b .entry)) ⌝ }
@@ -63,22 +97,47 @@ pub(crate) fn is_name(part: &[u8], name: u32) -> bool
     ensures { λ r. ⌜ r ≡ same (now (part .entry)) (spelling name) ⌝ }
 {
     match name {
-        DEFAULT_CERTIFICATION => equal(part, b"default_certification"),
-        VALIDATION_ARGS => equal(part, b"ValidationArgs"),
-        NO_CERTIFICATION => equal(part, b"no_certification"),
-        CERTIFICATION => equal(part, b"certification"),
-        CERTIFICATION_OBJECT => equal(part, b"Certification"),
-        NO_REQUEST_CERTIFICATION => equal(part, b"no_request_certification"),
-        REQUEST_CERTIFICATION => equal(part, b"request_certification"),
-        REQUEST_CERTIFICATION_OBJECT => equal(part, b"RequestCertification"),
-        CERTIFIED_REQUEST_HEADERS => equal(part, b"certified_request_headers"),
-        CERTIFIED_QUERY_PARAMETERS => equal(part, b"certified_query_parameters"),
-        RESPONSE_CERTIFICATION => equal(part, b"response_certification"),
-        RESPONSE_CERTIFICATION_OBJECT => equal(part, b"ResponseCertification"),
-        CERTIFIED_RESPONSE_HEADERS => equal(part, b"certified_response_headers"),
-        RESPONSE_HEADER_EXCLUSIONS => equal(part, b"response_header_exclusions"),
-        RESPONSE_HEADER_LIST => equal(part, b"ResponseHeaderList"),
-        HEADERS => equal(part, b"headers"),
+        DEFAULT_CERTIFICATION => equal(part, &DEFAULT_CERTIFICATION_BYTES),
+        VALIDATION_ARGS => equal(part, &VALIDATION_ARGS_BYTES),
+        NO_CERTIFICATION => equal(part, &NO_CERTIFICATION_BYTES),
+        CERTIFICATION => equal(part, &CERTIFICATION_BYTES),
+        CERTIFICATION_OBJECT => equal(part, &CERTIFICATION_OBJECT_BYTES),
+        NO_REQUEST_CERTIFICATION => equal(part, &NO_REQUEST_CERTIFICATION_BYTES),
+        REQUEST_CERTIFICATION => equal(part, &REQUEST_CERTIFICATION_BYTES),
+        REQUEST_CERTIFICATION_OBJECT => equal(part, &REQUEST_CERTIFICATION_OBJECT_BYTES),
+        CERTIFIED_REQUEST_HEADERS => equal(part, &CERTIFIED_REQUEST_HEADERS_BYTES),
+        CERTIFIED_QUERY_PARAMETERS => equal(part, &CERTIFIED_QUERY_PARAMETERS_BYTES),
+        RESPONSE_CERTIFICATION => equal(part, &RESPONSE_CERTIFICATION_BYTES),
+        RESPONSE_CERTIFICATION_OBJECT => equal(part, &RESPONSE_CERTIFICATION_OBJECT_BYTES),
+        CERTIFIED_RESPONSE_HEADERS => equal(part, &CERTIFIED_RESPONSE_HEADERS_BYTES),
+        RESPONSE_HEADER_EXCLUSIONS => equal(part, &RESPONSE_HEADER_EXCLUSIONS_BYTES),
+        RESPONSE_HEADER_LIST => equal(part, &RESPONSE_HEADER_LIST_BYTES),
+        HEADERS => equal(part, &HEADERS_BYTES),
         _ => part.len() == 0,
+    }
+}
+
+// Writes the name with this number from place `at` on, and answers the place after it.
+pub fn spell(out: &mut [u8], at: usize, name: u32) -> usize
+    ensures { λ r. ⌜ Wrote (now (out .entry)) (now (out .exit)) at r (spelling name) ⌝ }
+{
+    match name {
+        DEFAULT_CERTIFICATION => pieces::put(out, at, &DEFAULT_CERTIFICATION_BYTES),
+        VALIDATION_ARGS => pieces::put(out, at, &VALIDATION_ARGS_BYTES),
+        NO_CERTIFICATION => pieces::put(out, at, &NO_CERTIFICATION_BYTES),
+        CERTIFICATION => pieces::put(out, at, &CERTIFICATION_BYTES),
+        CERTIFICATION_OBJECT => pieces::put(out, at, &CERTIFICATION_OBJECT_BYTES),
+        NO_REQUEST_CERTIFICATION => pieces::put(out, at, &NO_REQUEST_CERTIFICATION_BYTES),
+        REQUEST_CERTIFICATION => pieces::put(out, at, &REQUEST_CERTIFICATION_BYTES),
+        REQUEST_CERTIFICATION_OBJECT => pieces::put(out, at, &REQUEST_CERTIFICATION_OBJECT_BYTES),
+        CERTIFIED_REQUEST_HEADERS => pieces::put(out, at, &CERTIFIED_REQUEST_HEADERS_BYTES),
+        CERTIFIED_QUERY_PARAMETERS => pieces::put(out, at, &CERTIFIED_QUERY_PARAMETERS_BYTES),
+        RESPONSE_CERTIFICATION => pieces::put(out, at, &RESPONSE_CERTIFICATION_BYTES),
+        RESPONSE_CERTIFICATION_OBJECT => pieces::put(out, at, &RESPONSE_CERTIFICATION_OBJECT_BYTES),
+        CERTIFIED_RESPONSE_HEADERS => pieces::put(out, at, &CERTIFIED_RESPONSE_HEADERS_BYTES),
+        RESPONSE_HEADER_EXCLUSIONS => pieces::put(out, at, &RESPONSE_HEADER_EXCLUSIONS_BYTES),
+        RESPONSE_HEADER_LIST => pieces::put(out, at, &RESPONSE_HEADER_LIST_BYTES),
+        HEADERS => pieces::put(out, at, &HEADERS_BYTES),
+        _ => at,
     }
 }
