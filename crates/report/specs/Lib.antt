@@ -1,0 +1,6 @@
+pub mod Words
+pub mod Window
+pub mod Node
+pub mod Policy
+pub mod Refusal
+pub mod Report
