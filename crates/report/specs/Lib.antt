@@ -4,3 +4,4 @@ pub mod Node
 pub mod Policy
 pub mod Refusal
 pub mod Report
+pub mod Laws
