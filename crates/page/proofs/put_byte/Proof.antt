@@ -73,8 +73,12 @@ same-length-5 c = search needs
 
 returns-5 : tie.Need-returns-5
 returns-5 c =
-    let i = c .before .before .before .before in
-    rw (shown-plain (c .before .before .before .before .before .before .before .before .args .b) (c .before .before .before .before .before .before .match .rest) (i .before .if1 .left) (i .if2 .taken)) (c .before .before .put-plain .ensures)
+    let u = c .before .before in
+    let v = u .before in
+    let w = v .before .before .before in
+    let y = w .before .before in
+    let i = v .before in
+    rw (shown-plain (y .args .b) (w .match .rest) (i .before .if1 .left) (i .if2 .taken)) (u .put-plain .ensures)
 
 same-length-6 : tie.Need-same-length-6
 same-length-6 c = search needs

@@ -28,10 +28,14 @@ same-length c = search needs
 returns : tie.Need-returns
 unfolding answerText
 returns c =
-    let d = c .before .before .before .before .before .before .before .before .before .before .read-policy in
+    let u = c .before .before in
+    let v = u .before .before .before in
+    let w = v .before .before .before .before .before in
+    let y = w .before .before .before .before .before in
+    let d = w .read-policy in
     let a = policyTold (d .result) in
-    let is = report-is (c .before .before .before .before .before .before .before .before .before .before .before .before .before .before .before .args .text .now) (d .last .1 .0) (d .last .1 .1 .0) a (d .ensures .0) (d .ensures .1 .0) (d .ensures .1 .1) in
-    rw (← is, ne-eqb (d .result .answer .refusal) 0 (c .before .before .before .before .before .if1 .taken)) (c .before .before .put-refusal .ensures)
+    let is = report-is (y .args .text .now) (d .last .1 .0) (d .last .1 .1 .0) a (d .ensures .0) (d .ensures .1 .0) (d .ensures .1 .1) in
+    rw (← is, ne-eqb (d .result .answer .refusal) 0 (v .if1 .taken)) (u .put-refusal .ensures)
 
 slice-aggregate-put-policy : tie.Need-slice-aggregate-put-policy
 slice-aggregate-put-policy c = search needs
@@ -45,10 +49,14 @@ same-length-2 c = search needs
 returns-2 : tie.Need-returns-2
 unfolding answerText
 returns-2 c =
-    let d = c .before .before .before .before .before .before .before .before .before .before .before .read-policy in
+    let u = c .before .before in
+    let v = u .before .before .before .before in
+    let w = v .before .before .before .before .before in
+    let y = w .before .before .before .before .before in
+    let d = w .read-policy in
     let a = policyTold (d .result) in
-    let is = report-is (c .before .before .before .before .before .before .before .before .before .before .before .before .before .before .before .before .args .text .now) (d .last .1 .0) (d .last .1 .1 .0) a (d .ensures .0) (d .ensures .1 .0) (d .ensures .1 .1) in
-    rw (← is, eq-eqb (d .result .answer .refusal) 0 (c .before .before .before .before .before .before .if1 .left)) (c .before .before .put-policy .ensures)
+    let is = report-is (y .args .text .now) (d .last .1 .0) (d .last .1 .1 .0) a (d .ensures .0) (d .ensures .1 .0) (d .ensures .1 .1) in
+    rw (← is, eq-eqb (d .result .answer .refusal) 0 (v .if1 .left)) (u .put-policy .ensures)
 
 pub report-spec : {M : Type 1} → statement M
 report-spec =

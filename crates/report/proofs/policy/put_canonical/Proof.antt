@@ -51,13 +51,17 @@ same-length-2 c = search needs
 returns-2 : tie.Need-returns-2
 unfolding printAnswer printOutput
 returns-2 c =
-    let s = c .before .before .before .before .before .before .before .before .before .before .before .before .before .before in
-    let d = c .before .before .before .before .before .before .before .before .before .print-policy in
+    let u = c .before .before in
+    let v = u .before .before .before .before in
+    let w = v .before .before .before in
+    let y = w .before .before .before .before in
+    let s = y .before in
+    let d = w .print-policy in
     let p = findPrint stringByte (numbers (s .args .policy)) (s .args .spans .now) (s .args .text .now) 8192 in
     let g = print-gives stringByte (numbers (s .args .policy)) (s .args .spans .now) (s .args .text .now) 8192 in
     let r = ap (λ (a : PrintAnswer). a .refusal) (d .ensures .0) in
     let l = ap (λ (a : PrintAnswer). a .length) (d .ensures .0) in
-    rw (← text-printed p (replicate 8192 0) (d .last .1 .1 .1 .0) (d .result .refusal) (d .result .length) g r l (d .ensures .1) (c .before .before .before .before .before .before .if1 .left)) (c .before .before .put-printed .ensures)
+    rw (← text-printed p (replicate 8192 0) (d .last .1 .1 .1 .0) (d .result .refusal) (d .result .length) g r l (d .ensures .1) (v .if1 .left)) (u .put-printed .ensures)
 
 pub put-canonical-spec : {M : Type 1} → statement M
 put-canonical-spec =

@@ -45,10 +45,16 @@ same-length c = search needs
 returns-2 : tie.Need-returns-2
 unfolding listsText
 returns-2 c =
-    let f = c .before .before .before .before .before .before .before .before .before .before .before .before .before .before .before .before .before .before .before .before .before .before .args .policy .form in
-    let h = c .before .before .before .before .before .before .before .before .before .before .before .before .before .before .before .before .before .if1 .left in
-    let l = c .before .before .before .before .before .before .before .before .before .before .before .before .before .response-list .ensures .0 in
-    rw (ne-eqb f 1 h, ← l) (wrote-then (c .before .before .before .before .before .before .before .before .before .before .say .ensures) (wrote-then (c .before .before .before .before .before .before .put-request .ensures) (c .before .before .put-list .ensures)))
+    let u = c .before .before in
+    let v = u .before .before .before .before in
+    let w = v .before .before .before .before in
+    let y = w .before .before .before in
+    let z = y .before .before .before .before in
+    let a = z .before .before .before .before .before in
+    let f = a .args .policy .form in
+    let h = z .if1 .left in
+    let l = y .response-list .ensures .0 in
+    rw (ne-eqb f 1 h, ← l) (wrote-then (w .say .ensures) (wrote-then (v .put-request .ensures) (u .put-list .ensures)))
 
 pub put-lists-spec : {M : Type 1} → statement M
 put-lists-spec =

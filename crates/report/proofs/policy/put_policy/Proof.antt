@@ -23,7 +23,11 @@ same-length c = search needs
 returns : tie.Need-returns
 unfolding policyText
 returns c =
-    wrote-then (c .before .before .before .before .before .before .before .before .before .before .before .before .before .before .put-form .ensures) (wrote-then (c .before .before .before .before .before .before .before .before .before .before .put-lists .ensures) (wrote-then (c .before .before .before .before .before .before .put-size .ensures) (c .before .before .put-canonical .ensures)))
+    let u = c .before .before in
+    let v = u .before .before .before .before in
+    let w = v .before .before .before .before in
+    let y = w .before .before .before .before in
+    wrote-then (y .put-form .ensures) (wrote-then (w .put-lists .ensures) (wrote-then (v .put-size .ensures) (u .put-canonical .ensures)))
 
 pub put-policy-spec : {M : Type 1} → statement M
 put-policy-spec =

@@ -24,7 +24,10 @@ same-length c = search needs
 
 returns : tie.Need-returns
 returns c =
-    wrote-then (c .before .before .before .before .before .before .before .before .before .before .before .say .ensures) (wrote-then (c .before .before .before .before .before .before .before .put-part .ensures) (c .before .before .say2 .ensures))
+    let u = c .before .before in
+    let v = u .before .before .before .before .before in
+    let w = v .before .before .before .before in
+    wrote-then (w .say .ensures) (wrote-then (v .put-part .ensures) (u .say2 .ensures))
 
 pub put-printed-spec : {M : Type 1} → statement M
 put-printed-spec =

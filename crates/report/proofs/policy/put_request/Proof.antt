@@ -30,8 +30,12 @@ same-length c = search needs
 returns-2 : tie.Need-returns-2
 unfolding requestText
 returns-2 c =
-    let f = c .before .before .before .before .before .before .before .before .before .before .before .before .before .before .before .args .policy .form in
-    rw (eq-eqb f 3 (c .before .before .before .before .before .before .before .before .before .before .if1 .left)) (wrote-then (c .before .before .before .before .before .before .put-list .ensures) (c .before .before .put-list2 .ensures))
+    let u = c .before .before in
+    let v = u .before .before .before .before in
+    let w = v .before .before .before .before in
+    let y = w .before .before .before .before .before in
+    let f = y .args .policy .form in
+    rw (eq-eqb f 3 (w .if1 .left)) (wrote-then (v .put-list .ensures) (u .put-list2 .ensures))
 
 pub put-request-spec : {M : Type 1} → statement M
 put-request-spec =

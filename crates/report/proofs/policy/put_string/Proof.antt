@@ -31,8 +31,13 @@ same-length c = search needs
 returns : tie.Need-returns
 unfolding stringText
 returns c =
-    let s = c .before .before .before .before .before .before .before .before .before .before .before .before .before .before .before .before .before in
-    rw (le-leb (s .args .to) (s .args .from + 72) (c .before .before .before .before .before .before .before .before .before .if1 .taken)) (wrote-then (c .before .before .before .before .before .before .before .before .before .before .before .before .say .ensures) (wrote-then (c .before .before .before .before .before .before .before .put-part .ensures) (c .before .before .say2 .ensures)))
+    let u = c .before .before in
+    let v = u .before .before .before .before .before in
+    let w = v .before .before in
+    let y = w .before .before .before in
+    let z = y .before .before .before .before in
+    let s = z .before in
+    rw (le-leb (s .args .to) (s .args .from + 72) (w .if1 .taken)) (wrote-then (y .say .ensures) (wrote-then (v .put-part .ensures) (u .say2 .ensures)))
 
 add-put-part : tie.Need-add-put-part
 add-put-part c = search needs
@@ -55,8 +60,13 @@ same-length-2 c = search needs
 returns-2 : tie.Need-returns-2
 unfolding stringText
 returns-2 c =
-    let s = c .before .before .before .before .before .before .before .before .before .before .before .before .before .before .before .before .before in
-    rw (lt-leb (s .args .to) (s .args .from + 72) (c .before .before .before .before .before .before .before .before .before .if1 .left)) (wrote-then (c .before .before .before .before .before .before .before .before .before .before .before .before .say .ensures) (wrote-then (c .before .before .before .before .before .before .before .put-part2 .ensures) (c .before .before .say3 .ensures)))
+    let u = c .before .before in
+    let v = u .before .before .before .before .before in
+    let w = v .before .before in
+    let y = w .before .before .before in
+    let z = y .before .before .before .before in
+    let s = z .before in
+    rw (lt-leb (s .args .to) (s .args .from + 72) (w .if1 .left)) (wrote-then (y .say .ensures) (wrote-then (v .put-part2 .ensures) (u .say3 .ensures)))
 
 pub put-string-spec : {M : Type 1} → statement M
 put-string-spec =

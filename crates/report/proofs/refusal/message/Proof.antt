@@ -10,10 +10,16 @@ returns-2 : tie.Need-returns-2
 returns-2 c = rw (eq-eqb (c .before .before .args .refusal) 4 (c .before .if1 .left), eq-eqb (c .before .before .args .i) (c .before .before .args .long) (c .if2 .taken))
 
 returns-3 : tie.Need-returns-3
-returns-3 c = rw (eq-eqb (c .before .before .before .args .refusal) 4 (c .before .before .if1 .left), ne-eqb (c .before .before .before .args .i) (c .before .before .before .args .long) (c .before .if2 .left), eq-eqb (c .before .before .before .args .i) 0 (c .if3 .taken))
+returns-3 c =
+    let u = c .before .before in
+    let v = u .before in
+    rw (eq-eqb (v .args .refusal) 4 (u .if1 .left), ne-eqb (v .args .i) (v .args .long) (c .before .if2 .left), eq-eqb (v .args .i) 0 (c .if3 .taken))
 
 returns-4 : tie.Need-returns-4
-returns-4 c = rw (eq-eqb (c .before .before .before .args .refusal) 4 (c .before .before .if1 .left), ne-eqb (c .before .before .before .args .i) (c .before .before .before .args .long) (c .before .if2 .left), ne-eqb (c .before .before .before .args .i) 0 (c .if3 .left))
+returns-4 c =
+    let u = c .before .before in
+    let v = u .before in
+    rw (eq-eqb (v .args .refusal) 4 (u .if1 .left), ne-eqb (v .args .i) (v .args .long) (c .before .if2 .left), ne-eqb (v .args .i) 0 (c .if3 .left))
 
 pub message-spec : {M : Type 1} → statement M
 message-spec = tie.close (tie.spec returns returns-2 returns-3 returns-4)

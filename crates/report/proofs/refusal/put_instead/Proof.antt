@@ -23,7 +23,10 @@ same-length c = search needs
 returns : tie.Need-returns
 unfolding insteadText
 returns c =
-    wrote-then (c .before .before .before .before .before .before .before .before .before .before .before .put-expected .ensures) (wrote-then (c .before .before .before .before .before .before .before .spell .ensures) (c .before .before .say .ensures))
+    let u = c .before .before in
+    let v = u .before .before .before .before .before in
+    let w = v .before .before .before .before in
+    wrote-then (w .put-expected .ensures) (wrote-then (v .spell .ensures) (u .say .ensures))
 
 pub put-instead-spec : {M : Type 1} → statement M
 put-instead-spec =

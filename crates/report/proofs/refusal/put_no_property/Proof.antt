@@ -32,7 +32,12 @@ same-length c = search needs
 returns : tie.Need-returns
 unfolding noPropertyText
 returns c =
-    rw (← c .before .before .before .before .before .before .before .before .before .before .before .before .before .before .before .before .before .owner .ensures) (wrote-then (c .before .before .before .before .before .before .before .before .before .before .before .before .before .before .before .before .spell .ensures) (wrote-then (c .before .before .before .before .before .before .before .before .before .before .before .say .ensures) (wrote-then (c .before .before .before .before .before .before .before .spell2 .ensures) (c .before .before .say2 .ensures))))
+    let u = c .before .before in
+    let v = u .before .before .before .before .before in
+    let w = v .before .before .before .before in
+    let y = w .before .before .before .before .before in
+    let z = y .before in
+    rw (← z .owner .ensures) (wrote-then (y .spell .ensures) (wrote-then (w .say .ensures) (wrote-then (v .spell2 .ensures) (u .say2 .ensures))))
 
 pub put-no-property-spec : {M : Type 1} → statement M
 put-no-property-spec =

@@ -33,10 +33,16 @@ same-length c = search needs
 returns : tie.Need-returns
 unfolding refusalText
 returns c =
-    let r = c .before .before .before .before .before .before .before .before .before .before .before .before .before .before .before .before .before .before .before .before .before .args .answer .refusal in
-    let h = c .before .before .before .before .before .before .before .before .before .if1 .taken in
-    let w = c .before .before .before .before .before .before .before .before .within .ensures in
-    rw (le-leb r 6 h, ← w) (wrote-then (c .before .before .before .before .before .before .before .before .before .before .before .before .before .before .say .ensures) (wrote-then (c .before .before .before .before .before .before .put-reading .ensures) (c .before .before .put-byte-place .ensures)))
+    let u = c .before .before in
+    let v = u .before .before .before .before in
+    let y = v .before .before in
+    let z = y .before in
+    let a = z .before .before .before .before .before in
+    let b = a .before .before .before .before .before .before .before in
+    let r = b .args .answer .refusal in
+    let h = z .if1 .taken in
+    let w = y .within .ensures in
+    rw (le-leb r 6 h, ← w) (wrote-then (a .say .ensures) (wrote-then (v .put-reading .ensures) (u .put-byte-place .ensures)))
 
 kind-requires : tie.Need-kind-requires
 kind-requires c κs = search needs
@@ -56,11 +62,18 @@ same-length-2 c = search needs
 returns-2 : tie.Need-returns-2
 unfolding refusalText
 returns-2 c =
-    let r = c .before .before .before .before .before .before .before .before .before .before .before .before .before .before .before .before .before .before .before .before .before .before .args .answer .refusal in
-    let h = c .before .before .before .before .before .before .before .before .before .before .if1 .left in
-    let k = c .before .before .before .before .before .before .before .before .kind .ensures in
-    let t = c .before .before .before .start .ensures .0 in
-    rw (lt-leb r 6 h, ← k, ← t) (wrote-then (c .before .before .before .before .before .before .before .before .before .before .before .before .before .before .before .say .ensures) (wrote-then (c .before .before .before .before .before .before .before .put-mapping .ensures) (c .before .before .put-node-place .ensures)))
+    let u = c .before .before in
+    let v = u .before in
+    let w = v .before .before .before .before in
+    let y = w .before in
+    let z = y .before .before in
+    let a = z .before .before .before .before .before in
+    let b = a .before .before .before .before .before .before .before in
+    let r = b .args .answer .refusal in
+    let h = z .if1 .left in
+    let k = y .kind .ensures in
+    let t = v .start .ensures .0 in
+    rw (lt-leb r 6 h, ← k, ← t) (wrote-then (a .say .ensures) (wrote-then (w .put-mapping .ensures) (u .put-node-place .ensures)))
 
 pub put-refusal-spec : {M : Type 1} → statement M
 put-refusal-spec =

@@ -26,7 +26,11 @@ same-length c = search needs
 returns : tie.Need-returns
 unfolding wrongText
 returns c =
-    wrote-then (c .before .before .before .before .before .before .before .before .before .before .before .before .before .before .say .ensures) (wrote-then (c .before .before .before .before .before .before .before .before .before .before .put-found .ensures) (wrote-then (c .before .before .before .before .before .before .say2 .ensures) (c .before .before .put-instead .ensures)))
+    let u = c .before .before in
+    let v = u .before .before .before .before in
+    let w = v .before .before .before .before in
+    let y = w .before .before .before .before in
+    wrote-then (y .say .ensures) (wrote-then (w .put-found .ensures) (wrote-then (v .say2 .ensures) (u .put-instead .ensures)))
 
 pub put-wrong-spec : {M : Type 1} → statement M
 put-wrong-spec =

@@ -48,15 +48,21 @@ same-length c = search needs
 returns : tie.Need-returns
 unfolding betweenText
 returns c =
-    let f = c .before .before .before .before .before .before .before .before .before .before .before .before .before .before .before .before .before .before .before .before .before .before .before in
+    let u = c .before .before in
+    let v = u .before .before .before .before .before in
+    let w = v .before .before .before .before .before in
+    let y = w .before .before .before .before .before in
+    let z = y .before .before .before .before in
+    let a = z .before in
+    let f = a .before in
     let l = f .before .before in
     let n = l .before .before in
     let s = n .before .before .before in
     let is = caret-is (s .args .text .now) (s .args .place .0) (n .back .result) (l .forth .result) (f .back2 .result) in
     let e = is (n .back .ensures .0) (l .forth .ensures .0) (f .back2 .ensures .0) in
-    let m = c .before .before .before .before .before .before .before .before .before .before .before .before .before .before .before .before .before .before .before .before .before .put-margin .ensures in
-    let p = c .before .before .before .before .before .before .before .before .before .before .before .before .before .before .before .before .before .put-part .ensures in
-    rw (← e) (wrote-then m (wrote-then p (wrote-then (c .before .before .before .before .before .before .before .before .before .before .before .before .put-end .ensures) (wrote-then (c .before .before .before .before .before .before .before .put-spaces .ensures) (c .before .before .say .ensures)))))
+    let m = z .put-margin .ensures in
+    let p = y .put-part .ensures in
+    rw (← e) (wrote-then m (wrote-then p (wrote-then (w .put-end .ensures) (wrote-then (v .put-spaces .ensures) (u .say .ensures)))))
 
 pub put-caret-spec : {M : Type 1} → statement M
 put-caret-spec =

@@ -23,7 +23,10 @@ same-length c = search needs
 returns : tie.Need-returns
 unfolding nodePlaceText
 returns c =
-    wrote-then (c .before .before .before .before .before .before .before .before .before .before .before .put-caret .ensures) (wrote-then (c .before .before .before .before .before .before .say .ensures) (c .before .before .put-place .ensures))
+    let u = c .before .before in
+    let v = u .before .before .before .before in
+    let w = v .before .before .before .before .before in
+    wrote-then (w .put-caret .ensures) (wrote-then (v .say .ensures) (u .put-place .ensures))
 
 pub put-node-place-spec : {M : Type 1} → statement M
 put-node-place-spec =

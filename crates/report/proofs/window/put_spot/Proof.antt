@@ -30,7 +30,11 @@ same-length c = search needs
 returns-2 : tie.Need-returns-2
 unfolding spotText
 returns-2 c =
-    rw (ne-eqb (c .before .before .before .before .before .before .before .before .before .before .before .before .before .args .spot .line) 1 (c .before .before .before .before .before .before .before .before .before .before .if1 .left)) (wrote-then (c .before .before .before .before .before .before .before .say .ensures) (c .before .before .say2 .ensures))
+    let u = c .before .before in
+    let v = u .before .before .before .before .before in
+    let w = v .before .before .before in
+    let y = w .before .before .before in
+    rw (ne-eqb (y .args .spot .line) 1 (w .if1 .left)) (wrote-then (v .say .ensures) (u .say2 .ensures))
 
 pub put-spot-spec : {M : Type 1} → statement M
 put-spot-spec =
