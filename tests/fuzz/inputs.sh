@@ -15,10 +15,11 @@ spaced_inputs() {
 }
 
 # The inputs that are kept, in hex, one a line: those made by hand, those that a fuzzer found, rows of spaces, and the texts that
-# `verdicts` and `answers` are run on, with an output of 8,192 bytes.
+# `ask` is run on for verdicts and answers, with an output of 8,192 bytes.
 kept_inputs() {
 	grep -hv '^#' "$here/seeds" "$here/corpus"
 	spaced_inputs
-	{ cat "$top/crates/verdicts/stdin" && cut -f 1 "$top/crates/answers/stdin"; } |
-		awk '/^[0-9a-f]*$/ && length($0) % 2 == 0 && length($0) <= 2 * 8200 { print "0020" $0 }'
+	LC_ALL=C awk -F '\t' '
+		($1 == "verdicts" || $1 == "answers") && $2 ~ /^[0-9a-f]*$/ && length($2) % 2 == 0 && length($2) <= 2 * 8200 { print "0020" $2 }
+	' "$top/crates/ask/stdin"
 }

@@ -1,5 +1,5 @@
 # Counts answers by their outcome: what tests put in front of an awk program of their own, with `test` the test's name and `list`
-# the file of known outcomes. The record is a line of the judge, or one of `verdicts`.
+# the file of known outcomes. The record is a line of the judge, or one of `ask`.
 
 BEGIN { FS = "\t" }
 

@@ -1,7 +1,6 @@
-"""Asks the programs `answers` and `prints` what the model knows, and compares every field of every line.
+"""Asks the program `ask` what the model knows, and compares every field of every line.
 
-ask.py FOLDER SEED TEXTS POLICIES, or ask.py FOLDER all LENGTH LETTERS, where FOLDER has the two programs; tests/second-opinion checks
-the words. Fails at the first field that differs and, but for `all`, where an outcome that should occur never did.
+ask.py PROGRAM SEED TEXTS POLICIES, or ask.py PROGRAM all LENGTH LETTERS; tests/second-opinion checks the words. Fails at the first field that differs and, but for `all`, where an outcome that should occur never did.
 """
 
 import itertools
@@ -101,7 +100,7 @@ def ask_texts(texts, program, seen):
     """Asks a chunk at a time; gives the number of texts."""
     asked = 0
     while chunk := list(itertools.islice(texts, CHUNK)):
-        requests = ["\t".join([reading.text.hex()] + [str(number) for number in lent]) + "\n" for reading, lent in chunk]
+        requests = ["\t".join(["answers", reading.text.hex()] + [str(number) for number in lent]) + "\n" for reading, lent in chunk]
         running, answers = start(program, requests)
         chunk = [(reading, lent + lines.USUAL[len(lent):]) for reading, lent in chunk]
         compare(requests, [reading.line(lent) for reading, lent in chunk], running, answers, ANSWER_FIELDS)
@@ -131,7 +130,7 @@ def foreign(seed, count):
         needed = lines.print_answer(text, form, kind, counts, table, lines.USUAL[2])[0][4]
         room = policies.room(needed)
         numbers, output = lines.print_answer(text, form, kind, counts, table, room)
-        fields = (text.hex(), form, kind) + counts + (",".join(map(str, table)), room)
+        fields = ("prints", text.hex(), form, kind) + counts + (",".join(map(str, table)), room)
         outcome = numbers[:3] if numbers[0] else FORMS[form, kind]
         yield "\t".join(map(str, fields)) + "\n", lines.print_line(numbers, output), outcome
 
@@ -163,29 +162,29 @@ def report(entry, seen):
     return ["%s %s" % (entry, shown(outcome)) for outcome, number in counts.items() if not number]
 
 
-def ask_every(length, letters, folder):
+def ask_every(length, letters, program):
     seen = Counter()
-    asked = ask_texts(swept(length, letters), folder + "/answers", seen)
+    asked = ask_texts(swept(length, letters), program, seen)
     for entry in TEXT_ENTRIES:
         report(entry, seen)
     print("second-opinion: {:,} texts, every field as the model has it".format(asked))
 
 
-def ask_mix(seed, texts, policies, folder):
+def ask_mix(seed, texts, policies, program):
     seen = Counter()
-    ask_texts(mixed(seed, texts), folder + "/answers", seen)
-    ask_policies(foreign(seed, policies), folder + "/prints", seen)
+    ask_texts(mixed(seed, texts), program, seen)
+    ask_policies(foreign(seed, policies), program, seen)
     never = [outcome for entry in SHOULD_OCCUR for outcome in report(entry, seen)]
     if never:
         fail("never occurred: " + ", ".join(never))
     print("second-opinion: {:,} texts and {:,} policies, every field as the model has it, every outcome occurred".format(texts, policies))
 
 
-def main(folder, arguments):
+def main(program, arguments):
     if arguments[0] == "all":
-        ask_every(int(arguments[1]), arguments[2].encode(), folder)
+        ask_every(int(arguments[1]), arguments[2].encode(), program)
     else:
-        ask_mix(*map(int, arguments), folder)
+        ask_mix(*map(int, arguments), program)
 
 
 if __name__ == "__main__":

@@ -1,9 +1,9 @@
-"""The lines that the programs `answers` and `prints` write, as the model has them."""
+"""The lines that the program `ask` writes for `answers` and `prints`, as the model has them."""
 
 import model
 from model import Refused
 
-# What `answers` lends where a request does not say.
+# What is lent where a request for answers does not say.
 USUAL = (model.NODE_WORDS, model.SPAN_WORDS, model.MOST_BYTES)
 
 FILLED = b"\xa5"

@@ -101,18 +101,14 @@ module _ (most n : ℕ) (x : List ℕ) (i : ℕ) where
       pub read-more : m ≤ most → readFrom most n (drop i x) ≡ readFrom most m (drop (i + 1) x)
       read-more o = rw (drop-cons x i 0 h, le-ltb (getD x i 0) 48 l, le-ltb 57 (getD x i 0) u, sym e, le-ltb most m o, add-one)
 
-pub read-some : (most : ℕ) (x : List ℕ) → (length x ≡ 0 → ⊥) → readDecimal most x ≡ readFrom most 0 x
-read-some most [] h = absurd (h refl)
-read-some most (b ∷ bs) h = refl
-
 pub read-none : (most : ℕ) (x : List ℕ) → length x ≡ 0 → readDecimal most x ≡ Bad
 read-none most [] h = refl
 read-none most (b ∷ bs) h = let z : ⊥ = omega arith in absurd z
 
 -- the field after the one that ends at `at`, with the count that its bytes give
-pub number-read : (most : ℕ) (line : List ℕ) (at end : ℕ) (r : Count) → (at ≡ length line → ⊥) → end ≡ fieldEnd line (at + 1) → r ≡ readDecimal most (take (end - (at + 1)) (drop (at + 1) line))
-    → ending r end ≡ numberAfter most line at
-number-read most line at end r n e d = rw (ne-eqb _ _ n, sym e, sym d)
+pub number-read : (most : ℕ) (line : List ℕ) (at end : ℕ) (r : Count) → at < length line → end ≡ fieldEnd line (at + 1)
+    → r ≡ readDecimal most (take (end - (at + 1)) (drop (at + 1) line)) → ending r end ≡ numberAfter most line at
+number-read most line at end r l e d = rw (lt-leb _ _ l, sym e, sym d)
 
 -- the parts after one that ends at `end`
 module _ (mark : ℕ) (line : List ℕ) where

@@ -1,3 +1,2 @@
 -- Lemmas on what the contracts cite.
 mod Fields
-mod Pieces

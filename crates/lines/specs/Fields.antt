@@ -69,7 +69,7 @@ ending Bad end = Wrong
 -- the number of the field after the one that ends at a place, where there is one
 abbrev pub numberAfter : (most : ℕ) → List ℕ → (at : ℕ) → Field
 numberAfter most line at =
-    cond (eqb at (length line)) Wrong
+    cond (leb (length line) at) Wrong
     (ending (readDecimal most (take (fieldEnd line (at + 1) - (at + 1)) (drop (at + 1) line))) (fieldEnd line (at + 1)))
 
 -- a number within its limit, and its field's end within the line

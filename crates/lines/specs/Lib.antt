@@ -1,3 +1,4 @@
 pub mod Fields
 pub mod Input
-pub mod Pieces
+pub mod Texts
+pub mod Laws

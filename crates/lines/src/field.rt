@@ -106,11 +106,10 @@ fn wide(b: u8) -> usize
 
 // The number of the field after the one that ends at `at`, where there is one.
 pub fn number_after(line: &[u8], at: usize, most: u32) -> Field
-    requires { ⌜ at ≤ length (now line) ⌝ }
     ensures { λ r. ⌜ r ≡ numberAfter most (now (line .entry)) at ⌝ }
     ensures { λ r. ⌜ Within (length (now (line .entry))) most r ⌝ }
 {
-    if at == line.len() {
+    if line.len() <= at {
         return Field::Wrong;
     }
     let from = at + 1;

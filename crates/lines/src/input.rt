@@ -4,9 +4,7 @@ ghost use mathlib.Core.Path.{_≡_};
 ghost use lib.ListN.{length};
 ghost use Rattle.lines.specs.Input.{Inside};
 ghost use Rattle.lines.specs.Input.{nothing as Input·nothing};
-use crate::write::BAD_LINE;
 use libc::STDIN_FILENO;
-use libc::STDOUT_FILENO;
 
 // A line of the input, from `from` up to `to`; how many bytes of the buffer are held; whether there was a line, and whether it was cut
 // because it fills the buffer.
@@ -91,16 +89,15 @@ fn fill(input: &mut [u8], kept: usize) -> Line
     }
 }
 
-// The line after the last one, which may be cut.
-fn following(input: &mut [u8], last: Line) -> Line
-    requires { ⌜ Inside last (length (now input)) ⌝ }
+// The line after one that ends at `to`.
+fn following(input: &mut [u8], to: usize, held: usize) -> Line
+    requires { ⌜ (to ≤ held) × (held ≤ length (now input)) ⌝ }
     ensures { λ r. ⌜ Inside r (length (now (input .exit))) ⌝ }
 {
-    let held = last.held;
-    if last.to == held {
+    if to == held {
         return fill(input, 0);
     }
-    let from = last.to + 1;
+    let from = to + 1;
     let end = bytes::scan::find(input, from, held, b'\n');
     if end < held {
         return Line {
@@ -128,44 +125,27 @@ fn after_cut(input: &mut [u8]) -> Line
         }
         let end = bytes::scan::find(input, 0, more, b'\n');
         if end < more {
-            return following(input, dropped(end, more));
+            return following(input, end, more);
         }
         turns -= 1;
     }
     none()
 }
 
-// The rest of a line that was cut.
-fn dropped(to: usize, held: usize) -> Line
-    ensures { λ r. ⌜ (r .from ≡ 0) × (r .to ≡ to) × (r .held ≡ held) ⌝ }
-{
-    Line {
-        from: 0,
-        to,
-        held,
-        found: true,
-        cut: true,
-    }
-}
-
-fn say_bad() {
-    io::write_all(STDOUT_FILENO, &BAD_LINE);
-}
-
-// The line after the last one. A line that fills the buffer is answered here, once, as bad, and passed over.
+// The line after the last one; a last line that does not lie within the buffer is as none, and nothing is held then. A line that fills the
+// buffer is cut, and its rest is passed over. What is read is no value of the program, so this is the one function whose contract cannot say
+// its whole answer: it says where the line lies.
 pub fn next(input: &mut [u8], last: Line) -> Line
-    requires { ⌜ Inside last (length (now input)) ⌝ }
     ensures { λ r. ⌜ Inside r (length (now (input .exit))) ⌝ }
 {
-    let mut line = following(input, last);
-    let mut turns = u64::MAX;
-    while turns > 0 {
-        if !line.cut {
-            return line;
-        }
-        say_bad();
-        line = after_cut(input);
-        turns -= 1;
+    if input.len() < last.held {
+        return fill(input, 0);
     }
-    line
+    if last.held < last.to {
+        return fill(input, 0);
+    }
+    if last.cut {
+        return after_cut(input);
+    }
+    following(input, last.to, last.held)
 }

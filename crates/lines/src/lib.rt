@@ -1,4 +1,4 @@
-// Lines of standard input, the fields and parts of a line, and the fields of an answer, for the programs.
+// Lines of standard input, the fields and parts of a line, and the numbers and bytes of an answer.
 mod field;
 mod input;
 mod write;
@@ -12,10 +12,6 @@ pub use field::unhex;
 pub use input::Line;
 pub use input::next;
 pub use input::none;
-pub use write::FILL_BYTE;
-pub use write::filled;
-pub use write::put;
-pub use write::put_bad;
 pub use write::put_hex;
 pub use write::put_number;
 pub use write::put_words;

@@ -7,8 +7,8 @@ use mathlib.Core.List.{[], _∷_, _++_, append-assoc, append-nil, flatMap}
 use lib.ListN.{length, getD, take}
 use lib.Seq.{take-suc}
 use borrow.Author.Tests.{ne-eqb, le-leb, lt-leb}
-use Rattle.io.specs.Digits.{digits}
 use Rattle.cel_text.specs.Byte.{Text, bytes}
+use Rattle.lines.specs.Texts.{pair}
 use Rattle.page.specs.Page.{shownByte}
 
 -- a byte that is shown as no pair
@@ -21,12 +21,12 @@ module _ (b : ℕ) (u : Unpaired b) where
   shown-plain l h =
       rw (ne-eqb b 9 (u .0 .0 .0 .1), ne-eqb b 10 (u .0 .0 .1), ne-eqb b 13 (u .0 .1), ne-eqb b 92 (u .1), le-leb 32 b l, le-leb b 126 (omega arith))
 
-  pub shown-low : b < 32 → shownByte b ≡ bytes "\\x" ++ digits 16 2 b
+  pub shown-low : b < 32 → shownByte b ≡ bytes "\\x" ++ pair b
   unfolding shownByte
   shown-low h =
       rw (ne-eqb b 9 (u .0 .0 .0 .1), ne-eqb b 10 (u .0 .0 .1), ne-eqb b 13 (u .0 .1), ne-eqb b 92 (u .1), lt-leb 32 b h)
 
-  pub shown-high : 127 ≤ b → shownByte b ≡ bytes "\\x" ++ digits 16 2 b
+  pub shown-high : 127 ≤ b → shownByte b ≡ bytes "\\x" ++ pair b
   unfolding shownByte
   shown-high h =
       rw (ne-eqb b 9 (u .0 .0 .0 .1), ne-eqb b 10 (u .0 .0 .1), ne-eqb b 13 (u .0 .1), ne-eqb b 92 (u .1), le-leb 32 b (omega arith), lt-leb b 126 (omega arith))

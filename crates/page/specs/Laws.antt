@@ -8,10 +8,12 @@ use mathlib.Core.List.{[], _∷_, flatMap}
 use lib.ListN.{replicate}
 use lib.Dec.{T, eqb, ltb}
 use borrow.Author.Tests.{ltb-true, le-leb, ne-eqb}
-use Rattle.io.specs.Digits.{glyph, digits}
+use Rattle.io.specs.Digits.{glyph}
 use Rattle.cel_text.specs.Byte.{Text, over, byte}
+use Rattle.lines.specs.Texts.{numeral, pair}
+use Rattle.lines.specs.Laws.{AllDigits, numeral-digits}
 use Rattle.cel_policy.specs.Laws.Ascii.{run-append}
-use Rattle.page.specs.Page.{plain, shownByte, widthFrom, numeral, saidByte, shown, said, legibleByte, Legible}
+use Rattle.page.specs.Page.{plain, shownByte, saidByte, shown, said, legibleByte, Legible}
 
 -- two texts, of which one is chosen
 pub legible-cond : (t : Bool) {x y : Text} → Legible x → Legible y → Legible (cond t x y)
@@ -30,9 +32,12 @@ glyph-legible d h = at (ltb d 10) refl
     at true e = printable (48 + d) (omega arith) (omega (arith, ltb-true d 10 e))
     at false e = printable (87 + d) (omega arith) (omega arith)
 
-digits-legible : (b : ℕ) → 0 < b → b ≤ 16 → (k n : ℕ) → Legible (digits b k n)
-digits-legible b l h zero n = over
-digits-legible b l h (suc k) n = run-append (digits-legible b l h k (n / b)) (byte (glyph-legible (n % b) (omega (arith, mod-lt n {m = b} l))) over)
+pair-legible : (b : ℕ) → Legible (pair b)
+unfolding pair
+pair-legible b = byte (hex (b / 16)) (byte (hex b) over)
+  where
+    hex : (n : ℕ) → T (legibleByte (glyph (n % 16)))
+    hex n = glyph-legible (n % 16) (mod-lt n {m = 16} (omega arith))
 
 or-true : (t : Bool) → T (t || true)
 or-true true = tt
@@ -54,15 +59,15 @@ shownByte-legible b =
     (legible-cond (eqb b 13) (byte tt (byte tt over))
     (legible-cond (eqb b 92) (byte tt (byte tt over))
     (plain-legible b
-    (byte tt (byte tt (digits-legible 16 (omega arith) (omega arith) 2 b)))))))
+    (byte tt (byte tt (pair-legible b)))))))
 
-numeral-legible : (n : ℕ) → Legible (numeral n)
-unfolding numeral
-numeral-legible n = digits-legible 10 (omega arith) (omega arith) (widthFrom 19 1 n) n
+digits-legible : (x : Text) → AllDigits x → Legible x
+digits-legible [] d = over
+digits-legible (b ∷ bs) d = byte {b = b} (printable b (omega (arith, d .0)) (omega (arith, d .1))) (digits-legible bs (d .2))
 
 saidByte-legible : (n b : ℕ) → Legible (saidByte n b)
 unfolding saidByte legibleByte
-saidByte-legible n b = legible-cond (eqb b 10) (byte tt over) (legible-cond (eqb b 35) (numeral-legible n) (shownByte-legible b))
+saidByte-legible n b = legible-cond (eqb b 10) (byte tt over) (legible-cond (eqb b 35) (digits-legible (numeral n) (numeral-digits n)) (shownByte-legible b))
 
 flat-legible : (f : ℕ → Text) → ((b : ℕ) → Legible (f b)) → (x : Text) → Legible (flatMap f x)
 unfolding flatMap

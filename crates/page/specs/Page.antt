@@ -1,10 +1,10 @@
 -- What a page shows: bytes of a text as letters, and words of its own. Assumes nothing.
-use Prim.Native.Nat.{ℕ, zero, suc, _^_}
+use Prim.Native.Nat.{ℕ}
 use mathlib.Core.Bool.{Bool, cond, _&&_, _||_}
 use mathlib.Core.List.{[], _∷_, flatMap}
-use lib.Dec.{eqb, leb, ltb}
-use Rattle.io.specs.Digits.{digits}
+use lib.Dec.{eqb, leb}
 use Rattle.cel_text.specs.Byte.{Text, bytes, _⧺_, Run}
+use Rattle.lines.specs.Texts.{numeral, pair}
 
 -- a printable ASCII byte
 abbrev pub plain : ℕ → Bool
@@ -18,16 +18,7 @@ shownByte b =
     (cond (eqb b 13) (bytes "\\r")
     (cond (eqb b 92) (bytes "\\\\")
     (cond (plain b) (b ∷ [])
-    (bytes "\\x" ⧺ digits 16 2 b)))))
-
--- the first of k, k + 1, .. decimal digits that hold n, where at most k + more do
-abbrev pub widthFrom : (more k n : ℕ) → ℕ
-widthFrom zero k n = k
-widthFrom (suc more) k n = cond (ltb n (10 ^ k)) k (widthFrom more (suc k) n)
-
--- a number below 2^64 in decimal
-unfoldable pub numeral : ℕ → Text
-numeral n = digits 10 (widthFrom 19 1 n) n
+    (bytes "\\x" ⧺ pair b)))))
 
 -- a byte of a page's own words: a line end is one, and `#` stands for the number n
 unfoldable pub saidByte : (n b : ℕ) → Text

@@ -1,30 +1,20 @@
 // A page of text for a person, whatever bytes it is about: what is put is escaped where it is not plain, and lines are ended by a page's own
 // words alone. Each function writes a piece, as `pieces` has it, and answers the place after it.
 ghost use mathlib.Core.Path.{_≡_};
-ghost use Prim.Native.Nat.{_<_};
 ghost use mathlib.Core.List.{[], _∷_, _++_};
 ghost use lib.ListN.{length, replicate};
-ghost use Rattle.io.specs.Digits.{glyph, digits};
 ghost use Rattle.cel_text.specs.Byte.{bytes};
+ghost use Rattle.lines.specs.Texts.{pair};
 ghost use Rattle.pieces.specs.Pieces.{Wrote};
-ghost use Rattle.page.specs.Page.{shownByte, numeral, saidByte, shown, said};
-
-fn digit(n: u8) -> u8
-    requires { ⌜ n < 16 ⌝ }
-    ensures { λ r. ⌜ r ≡ glyph n ⌝ }
-{
-    if n < 10 {
-        return b'0' + n;
-    }
-    87 + n
-}
+ghost use Rattle.page.specs.Page.{shownByte, saidByte, shown, said};
 
 // A backslash, `x` and the byte in hex.
 fn put_hex(out: &mut [u8], at: usize, b: u8) -> usize
-    ensures { λ r. ⌜ Wrote (now (out .entry)) (now (out .exit)) at r (bytes "\\x" ++ digits 16 2 b) ⌝ }
+    ensures { λ r. ⌜ Wrote (now (out .entry)) (now (out .exit)) at r (bytes "\\x" ++ pair b) ⌝ }
 {
-    let shown = [b'\\', b'x', digit(b / 16), digit(b % 16)];
-    pieces::put(out, at, &shown)
+    let end = pieces::put(out, at, b"\\x");
+    let row = [b];
+    lines::put_hex(out, end, &row)
 }
 
 fn put_plain(out: &mut [u8], at: usize, b: u8) -> usize
@@ -87,21 +77,13 @@ pub fn put_spaces(out: &mut [u8], at: usize, n: usize) -> usize
     end
 }
 
-fn put_number(out: &mut [u8], at: usize, n: usize) -> usize
-    ensures { λ r. ⌜ Wrote (now (out .entry)) (now (out .exit)) at r (numeral n) ⌝ }
-{
-    let mut digits = [0u8; 20];
-    let k = io::decimal(n as u64, &mut digits);
-    pieces::put(out, at, &digits[..k])
-}
-
 // A byte of a page's own words.
 fn say_byte(out: &mut [u8], at: usize, b: u8, n: usize) -> usize
     ensures { λ r. ⌜ Wrote (now (out .entry)) (now (out .exit)) at r (saidByte n b) ⌝ }
 {
     match b {
         b'\n' => pieces::put(out, at, b"\n"),
-        b'#' => put_number(out, at, n),
+        b'#' => lines::put_number(out, at, n as u64),
         _ => put_byte(out, at, b),
     }
 }

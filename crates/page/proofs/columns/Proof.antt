@@ -1,4 +1,5 @@
 -- `columns` meets its contract: by the cases of a byte. Assumes nothing.
+use Rattle.lines.specs.Texts.{pair}
 use mathlib.Core.Path.{sym, ap}
 use lib.ListN.{length}
 use Rattle.cel_text.specs.Byte.{Text}
@@ -31,10 +32,14 @@ returns-5 : tie.Need-returns-5
 returns-5 c = sym (ap (λ (x : Text). length x) (shown-plain (c .before .before .before .args .b) (c .before .before .match .rest) (c .before .if1 .left) (c .if2 .taken)))
 
 returns-6 : tie.Need-returns-6
-returns-6 c = sym (ap (λ (x : Text). length x) (shown-low (c .before .before .args .b) (c .before .match .rest) (c .if1 .taken)))
+unfolding pair
+returns-6 c =
+    sym (ap (λ (x : Text). length x) (shown-low (c .before .before .args .b) (c .before .match .rest) (c .if1 .taken)))
 
 returns-7 : tie.Need-returns-7
-returns-7 c = sym (ap (λ (x : Text). length x) (shown-high (c .before .before .before .args .b) (c .before .before .match .rest) (c .if2 .left)))
+unfolding pair
+returns-7 c =
+    sym (ap (λ (x : Text). length x) (shown-high (c .before .before .before .args .b) (c .before .before .match .rest) (c .if2 .left)))
 
 pub columns-spec : {M : Type 1} → statement M
 columns-spec =

@@ -25,21 +25,45 @@ returns-4 c =
 
 returns-5 : tie.Need-returns-5
 returns-5 c =
+    let if1 = c .before .before .before .before .if1 in
+    let if2 = c .before .before .before .if2 in
     let a = c .before .before .before .before .before .args in
-    rw (le-ltb (a .b) 48 (c .before .before .before .before .if1 .left), lt-leb (a .b) 57 (c .before .before .before .if2 .left), le-ltb (a .b) 65 (c .before .before .if3 .left), lt-leb (a .b) 70 (c .before .if4 .left), lt-ltb (a .b) 97 (c .if5 .taken))
+    rw (le-ltb (a .b) 48 (if1 .left), lt-leb (a .b) 57 (if2 .left), le-ltb (a .b) 65 (c .before .before .if3 .left), lt-leb (a .b) 70 (c .before .if4 .left), lt-ltb (a .b) 97 (c .if5 .taken))
 
 sub-result-2 : tie.Need-sub-result-2
 sub-result-2 c = search needs
 
 returns-6 : tie.Need-returns-6
 returns-6 c =
+    let if1 = c .before .before .before .before .before .if1 in
+    let if2 = c .before .before .before .before .if2 in
+    let if3 = c .before .before .before .if3 in
     let a = c .before .before .before .before .before .before .args in
-    rw (le-ltb (a .b) 48 (c .before .before .before .before .before .if1 .left), lt-leb (a .b) 57 (c .before .before .before .before .if2 .left), le-ltb (a .b) 65 (c .before .before .before .if3 .left), lt-leb (a .b) 70 (c .before .before .if4 .left), le-ltb (a .b) 97 (c .before .if5 .left), le-leb (a .b) 102 (c .if6 .taken))
+    rw (
+      le-ltb (a .b) 48 (if1 .left),
+      lt-leb (a .b) 57 (if2 .left),
+      le-ltb (a .b) 65 (if3 .left),
+      lt-leb (a .b) 70 (c .before .before .if4 .left),
+      le-ltb (a .b) 97 (c .before .if5 .left),
+      le-leb
+          (a .b) 102 (c .if6 .taken),
+    )
 
 returns-7 : tie.Need-returns-7
 returns-7 c =
+    let if1 = c .before .before .before .before .before .if1 in
+    let if2 = c .before .before .before .before .if2 in
+    let if3 = c .before .before .before .if3 in
     let a = c .before .before .before .before .before .before .args in
-    rw (le-ltb (a .b) 48 (c .before .before .before .before .before .if1 .left), lt-leb (a .b) 57 (c .before .before .before .before .if2 .left), le-ltb (a .b) 65 (c .before .before .before .if3 .left), lt-leb (a .b) 70 (c .before .before .if4 .left), le-ltb (a .b) 97 (c .before .if5 .left), lt-leb (a .b) 102 (c .if6 .left))
+    rw (
+      le-ltb (a .b) 48 (if1 .left),
+      lt-leb (a .b) 57 (if2 .left),
+      le-ltb (a .b) 65 (if3 .left),
+      lt-leb (a .b) 70 (c .before .before .if4 .left),
+      le-ltb (a .b) 97 (c .before .if5 .left),
+      lt-leb
+          (a .b) 102 (c .if6 .left),
+    )
 
 pub hex-value-spec : {M : Type 1} → statement M
 hex-value-spec =

@@ -1,6 +1,6 @@
 -- `field::number_after` meets its contract: it is the decimal reading of what stands up to the next tab. Assumes nothing.
 use mathlib.Core.Path.{sym, ap, subst, _∙_}
-use borrow.Author.Tests.{eq-eqb}
+use borrow.Author.Tests.{le-leb}
 use Rattle.lines.specs.declared.field.Count.{Count}
 use Rattle.lines.specs.Fields.{AtMost, ending}
 use Rattle.lines.proofs.Fields.{number-read}
@@ -9,7 +9,7 @@ use Rattle.lines.proofs.field.number_after.Statement.{statement}
 use Rattle.lines.proofs.field.number_after.Tie as tie
 
 returns : tie.Need-returns
-returns c = (rw (eq-eqb _ _ (c .if1 .taken)), tt)
+returns c = (rw (le-leb _ _ (c .if1 .taken)), tt)
 
 add-from : tie.Need-add-from
 add-from c = search needs

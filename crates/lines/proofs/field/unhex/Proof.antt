@@ -56,10 +56,15 @@ same-length c = c .before .before .before .before .before .before .loop .inv .1 
 
 returns-3 : tie.Need-returns-3 Inv-loop μ-loop
 returns-3 c =
+    let if1 = c .before .before .before .before .before .before .before .before .if1 in
+    let if2 = c .before .before .before .before .before .before .before .if2 in
+    let loop-test = c .before .before .before .before .before .loop-test in
+    let hex-value = c .before .before .before .hex-value in
     let a = c .before .before .before .before .before .before .before .before .before .before .before .args in
     let l = c .before .before .before .before .before .before .loop in
-    let t = c .before .before .before .before .before .loop-test .taken in
-    let r = stopped-early (a .field .now) (a .out .now) (l .out) (l .i) (c .before .before .before .before .before .before .before .before .if1 .left) (c .before .before .before .before .before .before .before .if2 .left) (l .inv .1) (l .inv .0) t (high-bad (a .field .now) (l .i) (omega (arith, t)) (c .before .before .before .hex-value .result) (c .before .hex-value2 .result) (c .before .before .before .hex-value .ensures) (c .before .hex-value2 .ensures) (c .if3 .taken)) in
+    let t = loop-test .taken in
+    let r = stopped-early (a .field .now) (a .out .now) (l .out) (l .i) (if1 .left) (if2 .left) (l .inv .1) (l .inv .0) t
+    (high-bad (a .field .now) (l .i) (omega (arith, t)) (hex-value .result) (c .before .hex-value2 .result) (hex-value .ensures) (c .before .hex-value2 .ensures) (c .if3 .taken)) in
     (r .0, (r .1, tt))
 
 same-length-2 : tie.Need-same-length-2 Inv-loop μ-loop
@@ -67,10 +72,16 @@ same-length-2 c = c .before .before .before .before .before .before .before .loo
 
 returns-4 : tie.Need-returns-4 Inv-loop μ-loop
 returns-4 c =
+    let if1 = c .before .before .before .before .before .before .before .before .before .if1 in
+    let if2 = c .before .before .before .before .before .before .before .before .if2 in
+    let loop-test = c .before .before .before .before .before .before .loop-test in
+    let hex-value = c .before .before .before .before .hex-value in
     let a = c .before .before .before .before .before .before .before .before .before .before .before .before .args in
     let l = c .before .before .before .before .before .before .before .loop in
-    let t = c .before .before .before .before .before .before .loop-test .taken in
-    let r = stopped-early (a .field .now) (a .out .now) (l .out) (l .i) (c .before .before .before .before .before .before .before .before .before .if1 .left) (c .before .before .before .before .before .before .before .before .if2 .left) (l .inv .1) (l .inv .0) t (low-bad (a .field .now) (l .i) (omega (arith, t)) (c .before .before .before .before .hex-value .result) (c .before .before .hex-value2 .result) (c .before .before .before .before .hex-value .ensures) (c .before .before .hex-value2 .ensures) (c .before .if3 .left) (c .if4 .taken)) in
+    let t = loop-test .taken in
+    let r = stopped-early (a .field .now) (a .out .now) (l .out) (l .i) (if1 .left) (if2 .left) (l .inv .1) (l .inv .0) t
+    (low-bad (a .field .now) (l .i) (omega (arith, t)) (hex-value .result) (c .before .before .hex-value2 .result) (hex-value .ensures) (c .before .before .hex-value2 .ensures)
+    (c .before .if3 .left) (c .if4 .taken)) in
     (r .0, (r .1, tt))
 
 mul-out : tie.Need-mul-out Inv-loop μ-loop
@@ -90,9 +101,13 @@ loop-less c = search needs
 
 loop-again : tie.Need-loop-again Inv-loop μ-loop
 loop-again c =
+    let hex-value = c .before .before .before .before .hex-value in
     let a = c .before .before .before .before .before .before .before .before .before .before .before .before .args in
-    let l = c .before .before .before .before .before .before .before .loop in
-    (omega arith, one-more (a .field .now) (l .i) (omega arith) (c .before .before .before .before .hex-value .result) (c .before .before .hex-value2 .result) (c .before .before .before .before .hex-value .ensures) (c .before .before .hex-value2 .ensures) (a .out .now) (l .out) (omega (arith, l .inv .1 .long)) (c .before .if3 .left) (c .if4 .left) (l .inv .1))
+    let l = c .before .before .before .before .before .before .before .loop in (
+      omega arith,
+      one-more (a .field .now) (l .i) (omega arith) (hex-value .result) (c .before .before .hex-value2 .result) (hex-value .ensures) (c .before .before .hex-value2 .ensures)
+          (a .out .now) (l .out) (omega (arith, l .inv .1 .long)) (c .before .if3 .left) (c .if4 .left) (l .inv .1),
+    )
 
 same-length-3 : tie.Need-same-length-3 Inv-loop μ-loop
 same-length-3 c = c .before .loop .inv .1 .long

@@ -2,10 +2,10 @@
 use mathlib.Core.Path.{_≡_, refl, _∙_}
 use lib.ListN.{length}
 use Rattle.lines.specs.Input.{nothing-inside}
-use borrow.Author.Needs.{needs}
-use native.Mathlib.Omega.{arith}
 use Rattle.lines.proofs.input.after_cut.Statement.{statement}
 use Rattle.lines.proofs.input.after_cut.Tie as tie
+use borrow.Author.Needs.{needs}
+use native.Mathlib.Omega.{arith}
 
 abbrev Inv-loop : tie.InvT-loop
 Inv-loop input₀ turns₀ input turns = length input ≡ length input₀
@@ -31,22 +31,14 @@ returns c = nothing-inside (c .none .result) _ (c .none .ensures)
 find-requires : tie.Need-find-requires Inv-loop μ-loop
 find-requires c κs = (omega arith, omega (arith, c .before .before .before .before .read-more .ensures))
 
-dropped-requires : tie.Need-dropped-requires Inv-loop μ-loop
-dropped-requires c κs = search needs
-
 following-requires : tie.Need-following-requires Inv-loop μ-loop
-following-requires c κs =
-    let d = c .dropped .ensures in
-    record {
-      ordered = omega arith;
-      inside = omega (arith, c .before .before .if2 .taken);
-      room = omega (arith, c .before .before .before .before .before .before .before .before .read-more .ensures);
-    }
+following-requires c κs = omega (arith, c .before .if2 .taken, c .before .before .before .before .before .before .before .read-more .ensures)
 
 same-length-2 : tie.Need-same-length-2 Inv-loop μ-loop
 same-length-2 c =
-    c .before .before .following .kept .0 ∙ c .before .before .before .before .before .before .before .before .before .before .before .read-more .kept .0
-    ∙ c .before .before .before .before .before .before .before .before .before .before .before .before .before .before .loop .inv
+    let l = c .before .before .before .before .before .before .before .before .before .before .before .before .before .loop in
+    let read-more = c .before .before .before .before .before .before .before .before .before .before .read-more in
+    c .before .before .following .kept .0 ∙ read-more .kept .0 ∙ l .inv
 
 returns-2 : tie.Need-returns-2 Inv-loop μ-loop
 returns-2 c = c .before .before .following .ensures
@@ -81,7 +73,6 @@ after-cut-spec =
     same-length
     returns
     find-requires
-    dropped-requires
     following-requires
     same-length-2
     returns-2

@@ -34,10 +34,17 @@ returns-2 : tie.Need-returns-2 Inv-loop μ-loop
 returns-2 c = record { ordered = omega arith; inside = omega arith; room = omega (arith, c .before .before .before .before .before .before .read-more .ensures) }
 
 loop-less : tie.Need-loop-less Inv-loop μ-loop
-loop-less c = omega (arith, c .before .before .before .before .before .before .read-more .ensures, c .before .before .before .if1 .left, c .before .before .before .before .before .before .read-more .kept .0, c .before .before .before .before .before .before .before .before .before .loop .inv)
+loop-less c =
+    let l = c .before .before .before .before .before .before .before .before .before .loop in
+    let read-more = c .before .before .before .before .before .before .read-more in
+    let if1 = c .before .before .before .if1 in
+    omega (arith, read-more .ensures, if1 .left, read-more .kept .0, l .inv)
 
 loop-again : tie.Need-loop-again Inv-loop μ-loop
-loop-again c = (c .before .before .before .before .before .before .read-more .ensures .1, c .before .before .before .before .before .before .read-more .kept .0 ∙ c .before .before .before .before .before .before .before .before .before .loop .inv .1)
+loop-again c =
+    let l = c .before .before .before .before .before .before .before .before .before .loop in
+    let read-more = c .before .before .before .before .before .before .read-more in
+    (read-more .ensures .1, read-more .kept .0 ∙ l .inv .1)
 
 same-length-3 : tie.Need-same-length-3 Inv-loop μ-loop
 same-length-3 c = c .before .loop .inv .1

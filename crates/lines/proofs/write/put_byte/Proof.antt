@@ -1,10 +1,8 @@
 -- `write::put_byte` meets its contract: two digits are the fewest that hold a byte. Assumes nothing.
-use mathlib.Core.Path.{ap, _∙_}
+use mathlib.Core.Path.{subst, _∙_}
+use Rattle.pieces.specs.Pieces.{Wrote}
+use Rattle.lines.specs.Laws.{digits-pair}
 use native.Mathlib.Omega.{arith}
-use mathlib.Core.List.{List, [], _∷_}
-use Prim.Native.Nat.{ℕ}
-use Rattle.lines.specs.Pieces.{written, after}
-use Rattle.lines.proofs.Pieces.{pair-fewest}
 use borrow.Author.Needs.{needs}
 use Rattle.lines.proofs.write.put_byte.Statement.{statement}
 use Rattle.lines.proofs.write.put_byte.Tie as tie
@@ -26,12 +24,12 @@ same-length c = search needs
 
 returns : tie.Need-returns
 returns c =
-    let s = c .before .before .before .before .before .before .before .before in
+    let a = c .before .before .before .before .before .before .before .before .args in
+    let fits = c .before .before .before .before .before .before .before .before .fits in
     let h = c .before .before .before .before .before .hex in
-    let p = c .before .before .put in (
-      p .ensures .0 ∙ ap (λ (l : List ℕ). after (written (s .args .at) (s .args .out .now)) (l ∷ [])) (h .ensures .1 .1 ∙ pair-fewest (s .args .b) (h .result) (omega (arith, s .fits .b)) (h .ensures .1 .0)),
-      p .ensures .1,
-    )
+    let p = c .before .before .put in
+    let e = h .ensures .1 .1 ∙ digits-pair (a .b) (h .result) (omega (arith, fits .b)) (h .ensures .1 .0) in
+    subst (Wrote (a .out .now) (p .last .0) (a .at) (p .result)) e (p .ensures)
 
 pub put-byte-spec : {M : Type 1} → statement M
 put-byte-spec =

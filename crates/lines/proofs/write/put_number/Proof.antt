@@ -1,10 +1,7 @@
 -- `write::put_number` meets its contract: the digits are the fewest that hold the number. Assumes nothing.
-use mathlib.Core.Path.{ap, _∙_}
-use native.Mathlib.Omega.{arith}
-use mathlib.Core.List.{List, [], _∷_}
-use Prim.Native.Nat.{ℕ}
-use Rattle.lines.specs.Pieces.{written, after}
-use Rattle.lines.proofs.Pieces.{numeral-fewest}
+use mathlib.Core.Path.{subst, _∙_}
+use Rattle.pieces.specs.Pieces.{Wrote}
+use Rattle.lines.specs.Laws.{digits-numeral}
 use borrow.Author.Needs.{needs}
 use Rattle.lines.proofs.write.put_number.Statement.{statement}
 use Rattle.lines.proofs.write.put_number.Tie as tie
@@ -26,12 +23,10 @@ same-length c = search needs
 
 returns : tie.Need-returns
 returns c =
-    let s = c .before .before .before .before .before .before .before .before in
+    let a = c .before .before .before .before .before .before .before .before .args in
     let d = c .before .before .before .before .before .decimal in
-    let p = c .before .before .put in (
-      p .ensures .0 ∙ ap (λ (l : List ℕ). after (written (s .args .at) (s .args .out .now)) (l ∷ [])) (d .ensures .1 .1 ∙ numeral-fewest (s .args .n) (d .result) (omega (arith, s .fits .n)) (d .ensures .1 .0)),
-      p .ensures .1,
-    )
+    let p = c .before .before .put in
+    subst (Wrote (a .out .now) (p .last .0) (a .at) (p .result)) (d .ensures .1 .1 ∙ digits-numeral (d .result) (a .n) (d .ensures .1 .0)) (p .ensures)
 
 pub put-number-spec : {M : Type 1} → statement M
 put-number-spec =

@@ -1,68 +1,57 @@
--- `write::put_words` meets its contract: what is left to put gives what the whole gives. Assumes nothing.
-use mathlib.Core.Path.{_≡_, refl, sym, _∙_}
-use Prim.Native.Nat.{_≤_, _-_}
-use lib.ListN.{length, take, drop}
-use Rattle.lines.specs.Pieces.{written, after, wordPieces}
-use Rattle.lines.proofs.Pieces.{words-more, words-end}
-use native.Mathlib.Omega.{arith}
+-- `write::put_words` meets its contract: the first word, and the others after commas. Assumes nothing.
+use mathlib.Core.Path.{subst}
+use Rattle.pieces.specs.Pieces.{Wrote}
+use Rattle.pieces.specs.Laws.{wrote-none, wrote-then}
+use Rattle.lines.specs.Laws.{no-words, some-words}
+use borrow.Author.Needs.{needs}
 use Rattle.lines.proofs.write.put_words.Statement.{statement}
 use Rattle.lines.proofs.write.put_words.Tie as tie
 
-abbrev Inv-loop : tie.InvT-loop
-Inv-loop out₀ at words n end₀ i₀ out end i = (end ≤ length out) × (length out ≡ length out₀) × (after (written at out₀) (wordPieces 0 (take n words)) ≡ after (written end out) (wordPieces i (drop i (take n words))))
-
-abbrev μ-loop : tie.MeasureT-loop
-μ-loop out₀ at words n end₀ i₀ out end i = n - i
-
-loop-holds : tie.Need-loop-holds Inv-loop μ-loop
-loop-holds c = (c .before .before .pre .0, refl, refl)
-
-mul-put-item : tie.Need-mul-put-item Inv-loop μ-loop
-mul-put-item c = omega arith
-
-shared-slice-read-put-item : tie.Need-shared-slice-read-put-item Inv-loop μ-loop
-shared-slice-read-put-item c = omega arith
-
-put-item-requires : tie.Need-put-item-requires Inv-loop μ-loop
-put-item-requires c κs = c .before .before .before .loop .inv .0
-
-add-i : tie.Need-add-i Inv-loop μ-loop
-add-i c = omega arith
-
-loop-less : tie.Need-loop-less Inv-loop μ-loop
-loop-less c = omega arith
-
-loop-again : tie.Need-loop-again Inv-loop μ-loop
-loop-again c =
-    let s = c .before .before .before .before .before .before .before .before .before in
-    let l = c .before .before .before .before .before .before .loop in
-    let p = c .before .before .put-item in (
-      p .ensures .1,
-      p .kept .0 ∙ l .inv .1,
-      l .inv .2 ∙ words-more (written (l .end) (l .out)) (s .args .words .now) (s .args .n) (l .i) (c .before .before .before .before .before .loop-test .taken) (s .pre .1) (written (p .result) (p .last .0)) (p .ensures .0),
-    )
-
-same-length : tie.Need-same-length Inv-loop μ-loop
-same-length c = c .before .loop .inv .1
-
-returns : tie.Need-returns Inv-loop μ-loop
+returns : tie.Need-returns
 returns c =
-    let s = c .before .before .before .before in
-    let l = c .before .loop in
-    (sym (l .inv .2 ∙ words-end (written (l .end) (l .out)) (s .args .words .now) (s .args .n) (l .i) (s .pre .1) (c .loop-test .left)), l .inv .0)
+    let a = c .before .before .before .args in
+    subst (Wrote (a .out .now) (a .out .now) (a .at) (a .at)) (no-words (a .words .now) (c .if1 .taken)) (wrote-none _ _)
+
+shared-slice-read-put-word : tie.Need-shared-slice-read-put-word
+shared-slice-read-put-word c = search needs
+
+put-word-requires : tie.Need-put-word-requires
+put-word-requires c κs = search needs
+
+sub-put-after-commas : tie.Need-sub-put-after-commas
+sub-put-after-commas c = search needs
+
+part-put-after-commas-start : tie.Need-part-put-after-commas-start
+part-put-after-commas-start c = search needs
+
+part-put-after-commas-end : tie.Need-part-put-after-commas-end
+part-put-after-commas-end c = search needs
+
+put-after-commas-requires : tie.Need-put-after-commas-requires
+put-after-commas-requires c κs = search needs
+
+same-length : tie.Need-same-length
+same-length c = search needs
+
+returns-2 : tie.Need-returns-2
+returns-2 c =
+    let a = c .before .before .before .before .before .before .before .before .before .before .before .before .before .args in
+    let if1 = c .before .before .before .before .before .before .before .before .before .before .if1 in
+    let put-word = c .before .before .before .before .before .before .before .put-word in
+    let p = c .before .before .put-after-commas in
+    let e = some-words (a .words .now) (if1 .left) in
+    subst (Wrote (a .out .now) (p .last .0) (a .at) (p .result)) e (wrote-then (put-word .ensures) (p .ensures))
 
 pub put-words-spec : {M : Type 1} → statement M
 put-words-spec =
     tie.close
     (tie.spec
-    Inv-loop
-    μ-loop
-    loop-holds
-    mul-put-item
-    shared-slice-read-put-item
-    put-item-requires
-    add-i
-    loop-less
-    loop-again
+    returns
+    shared-slice-read-put-word
+    put-word-requires
+    sub-put-after-commas
+    part-put-after-commas-start
+    part-put-after-commas-end
+    put-after-commas-requires
     same-length
-    returns)
+    returns-2)

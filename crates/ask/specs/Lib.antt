@@ -1,0 +1,4 @@
+pub mod Every
+pub mod Answers
+pub mod Prints
+pub mod Table

@@ -1,0 +1,9 @@
+-- Where a number ends. Assumes nothing.
+use Prim.Native.Nat.{ℕ, _≤_}
+use Rattle.ask.specs.declared.table.Word.{Word}
+use Rattle.ask.specs.declared.table.Word.the-variants.{Is, Wrong}
+
+-- within the bytes that it is read from
+abbrev pub Ends : (long : ℕ) → Word → Type 0
+Ends long (Is w end) = end ≤ long
+Ends long Wrong = Unit
