@@ -8,9 +8,10 @@ use Rattle.cel_text.specs.Byte.{Text}
 use Rattle.cel_text.specs.Table.{Words}
 use Rattle.cel_policy.specs.Policy.{Counted, stringCount, strings}
 use Rattle.cel_policy.specs.Printed.{printed, shaped, maxResponseOnly}
-use Rattle.cel_policy.specs.Answers.{placed, spanFits, bytesFit, anyByte, firstFault, Judgement, clean, faulty, unlessFaulty, judgement, unprinted, unlessJudged, sized, findPrint, PrintAnswer, printAnswered, printAnswer, printOutput}
+use Rattle.cel_policy.specs.Answers.{placed, spanFits, bytesFit, anyByte, firstFault, Judgement, clean, faulty, unlessFaulty, judgement}
+use Rattle.cel_policy.specs.Answers.{unprinted, unlessJudged, sized, findPrint, PrintAnswer, printAnswered, printAnswer, printOutput}
 use Rattle.cel_policy.specs.Laws.SpanTable.{Faultless, clean-faultless}
-use Rattle.cel_policy.specs.Laws.Judging.{AllInside, faultless-inside, shaped-few, SmallPlace, judgement-small, thenJudged, judgement-any, judgement-then}
+use Rattle.cel_policy.specs.Laws.Judging.{SpansInside, faultless-inside, shaped-few, SmallPlace, judgement-small, thenJudged, judgement-any, judgement-then}
 use Rattle.create_cel_expr.specs.declared.Judged.{Judged}
 use Rattle.create_cel_expr.specs.declared.Judged.the-variants.{Clean, Faulty}
 use Rattle.create_cel_expr.specs.Judged.{judgedAs, Judges, printing}
@@ -42,7 +43,7 @@ module _ (k : Counted) (ws : Words) (x : Text) where
     pub judged-22 : {n : ℕ} {g : Judgement} → j ≡ Clean → n ≡ stringCount k → g ≡ odd S n → g ≡ judgement S k ws x
     judged-22 f h i = i ∙ ap (odd S) h ∙ sym (after f)
 
-  pub judged-inside : (j : Judged) {n : ℕ} → judgedAs j ≡ judgement anyByte k ws x → j ≡ Clean → n ≡ stringCount k → AllInside ws x n 0
+  pub judged-inside : (j : Judged) {n : ℕ} → judgedAs j ≡ judgement anyByte k ws x → j ≡ Clean → n ≡ stringCount k → SpansInside ws x n 0
   judged-inside j e f h = rw h (faultless-inside (clean-faultless anyByte k ws x (sym e ∙ ap judgedAs f)))
 
   -- what was judged, by whatever set
@@ -53,7 +54,7 @@ module _ (k : Counted) (ws : Words) (x : Text) where
     faultless : j ≡ Clean → Faultless (h .set) k ws x
     faultless e = clean-faultless (h .set) k ws x (sym (h .same) ∙ ap judgedAs e)
 
-    pub judges-inside : j ≡ Clean → AllInside ws x (stringCount k) 0
+    pub judges-inside : j ≡ Clean → SpansInside ws x (stringCount k) 0
     judges-inside e = faultless-inside (faultless e)
 
     pub judges-few : j ≡ Clean → stringCount k ≤ maxResponseOnly

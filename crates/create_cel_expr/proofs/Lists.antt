@@ -1,4 +1,4 @@
--- The strings of a list one after the other, as they are written and as their lengths are added up, and the three lists of a policy. Assumes nothing.
+-- The strings of a list one after the other, as they are written and as their lengths are added up. Assumes nothing.
 use mathlib.Core.Path.{_≡_, sym, ap, subst, _∙_}
 use Prim.Native.Nat.{ℕ, suc, _+_, _*_, _-_, _≤_, _<_, min}
 use native.Mathlib.Nat.{zero-add}
@@ -11,7 +11,7 @@ use Rattle.cel_policy.specs.Policy.{Counted, stringCount, content}
 use Rattle.cel_policy.specs.Spans.{spanAt}
 use Rattle.cel_policy.specs.Printed.{joined, listText, total, listLength}
 use Rattle.cel_policy.specs.Laws.SpanTable.{length-spansAt}
-use Rattle.cel_policy.specs.Laws.Judging.{Inside, AllInside}
+use Rattle.cel_policy.specs.Laws.Judging.{SpanInside, SpansInside}
 use Rattle.pieces.specs.Pieces.{Wrote}
 use Rattle.pieces.specs.Laws.{wrote-none, wrote-then}
 use Rattle.create_cel_expr.specs.Given.{stringsAt, tooLong}
@@ -95,16 +95,6 @@ module _ (x : Text) (ws : Words) (begin count : ℕ) where
       let long : length (leftOf 1) ≡ count - 1 = simp (length-map, length-spansAt) in
       ap listLength (left-first n) ∙ (rw (left-first n) (omega (arith, long, n)))
 
--- the strings of each of the three lists
-module _ {ws : Words} {x : Text} (k : Counted) (all : AllInside ws x (stringCount k) 0) where
-  part : (n b : ℕ) → b + n ≤ stringCount k → AllInside ws x n b
-  part n b le i lt = subst (Inside ws x) (zero-add (b + i)) (all (b + i) (omega arith))
-
-  pub inside-request : AllInside ws x (k .requestHeaders) 0
-  inside-request = part (k .requestHeaders) 0 (omega arith)
-
-  pub inside-query : AllInside ws x (k .queryParameters) (k .requestHeaders)
-  inside-query = part (k .queryParameters) (k .requestHeaders) (omega arith)
-
-  pub inside-response : {b : ℕ} → b ≡ k .requestHeaders + k .queryParameters → AllInside ws x (k .responseHeaders) b
-  inside-response {b = b} e = part (k .responseHeaders) b (omega arith)
+-- what lies inside where all do: any strings of the policy that follow one another
+pub inside-part : {ws : Words} {x : Text} (k : Counted) → SpansInside ws x (stringCount k) 0 → (b n : ℕ) → b + n ≤ stringCount k → SpansInside ws x n b
+inside-part {ws = ws} {x = x} k all b n le i lt = subst (SpanInside ws x) (zero-add (b + i)) (all (b + i) (omega arith))

@@ -33,9 +33,6 @@ module _ (p : Policy Text) where
   unfolding printedLength
   length-full n m ea eb er = rw (ne-eqb (p .form) skip n, ne-eqb (p .form) responseOnly m) (omega (arith, ea, eb, er))
 
-pub sum-short : {r : ℕ} (n : ℕ) → r ≡ min tooLong n → r ≤ tooLong
-sum-short n e = omega arith
-
 -- ---- what is printed
 
 sized-23 : (t : Text) (room : ℕ) → maxText < length t → sized t room ≡ unprinted 23 0

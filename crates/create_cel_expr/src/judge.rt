@@ -4,7 +4,7 @@ ghost use Prim.Native.Nat.{_≤_};
 ghost use Rattle.cel_policy.specs.Policy.{numbers};
 ghost use Rattle.cel_policy.specs.Printed.{shaped, maxResponseOnly};
 ghost use Rattle.cel_policy.specs.Answers.{spanFits, bytesFit, anyByte, firstFault, clean, unlessFaulty, judgement};
-ghost use Rattle.cel_policy.specs.Laws.Judging.{Inside, AllInside};
+ghost use Rattle.cel_policy.specs.Laws.Judging.{SpanInside, SpansInside};
 ghost use Rattle.parser.specs.Set.{stringSet};
 ghost use Rattle.create_cel_expr.specs.Judged.{judgedAs};
 use crate::Judged;
@@ -12,6 +12,7 @@ use crate::NO_STRING_BYTE;
 use crate::SPAN_OUTSIDE;
 use crate::WRONG_SHAPE;
 use crate::span;
+use cel_policy::EXCLUSIONS;
 use cel_policy::FULL;
 use cel_policy::Policy;
 use cel_policy::RESPONSE_ONLY;
@@ -40,7 +41,7 @@ fn shape(policy: Policy) -> bool
     if kind == 0 {
         return false;
     }
-    if 2 < kind {
+    if EXCLUSIONS < kind {
         return false;
     }
     if form == RESPONSE_ONLY {
@@ -88,7 +89,7 @@ fn first_outside(text: &[u8], spans: &[u32], count: usize) -> Judged
 
 // Whether string i has string bytes only.
 fn plain(text: &[u8], spans: &[u32], i: usize) -> bool
-    requires { ⌜ Inside (now spans) (now text) i ⌝ }
+    requires { ⌜ SpanInside (now spans) (now text) i ⌝ }
     ensures { λ r. ⌜ r ≡ bytesFit stringSet (now (spans .entry)) (now (text .entry)) i ⌝ }
 {
     let string = span::string(text, spans, i);
@@ -98,7 +99,7 @@ fn plain(text: &[u8], spans: &[u32], i: usize) -> bool
 
 // 22: the first string that has another byte.
 fn first_odd(text: &[u8], spans: &[u32], count: usize) -> Judged
-    requires { ⌜ AllInside (now spans) (now text) count 0 ⌝ }
+    requires { ⌜ SpansInside (now spans) (now text) count 0 ⌝ }
     ensures { λ r. ⌜ judgedAs r ≡ unlessFaulty 22 (firstFault (bytesFit stringSet (now (spans .entry)) (now (text .entry))) count 0) clean ⌝ }
 {
     let mut i = 0;

@@ -3,7 +3,7 @@ ghost use mathlib.Core.Path.{_≡_};
 ghost use Prim.Native.Nat.{_+_, _≤_, min};
 ghost use Rattle.cel_policy.specs.Policy.{stringCount, numbers};
 ghost use Rattle.cel_policy.specs.Printed.{total, listLength, printedLength, maxResponseOnly};
-ghost use Rattle.cel_policy.specs.Laws.Judging.{AllInside};
+ghost use Rattle.cel_policy.specs.Laws.Judging.{SpansInside};
 ghost use Rattle.create_cel_expr.specs.Given.{stringsAt, policyOf, tooLong};
 use crate::span;
 use cel_policy::Policy;
@@ -26,7 +26,7 @@ fn sum(a: usize, b: usize) -> usize
 
 // The strings from string `begin` on, `count` of them, after `before` bytes.
 fn strings(text: &[u8], spans: &[u32], begin: usize, count: usize, before: usize) -> usize
-    requires { ⌜ AllInside (now spans) (now text) count begin ⌝ }
+    requires { ⌜ SpansInside (now spans) (now text) count begin ⌝ }
     requires { ⌜ before ≤ tooLong ⌝ }
     ensures { λ r. ⌜ r ≡ min tooLong (before + total (stringsAt (now (text .entry)) (now (spans .entry)) count begin)) ⌝ }
 {
@@ -42,7 +42,7 @@ fn strings(text: &[u8], spans: &[u32], begin: usize, count: usize, before: usize
 
 // A list's text, after `before` bytes.
 fn list(text: &[u8], spans: &[u32], begin: usize, count: usize, before: usize) -> usize
-    requires { ⌜ AllInside (now spans) (now text) count begin ⌝ }
+    requires { ⌜ SpansInside (now spans) (now text) count begin ⌝ }
     requires { ⌜ (before ≤ tooLong) × (count ≤ maxResponseOnly) ⌝ }
     ensures { λ r. ⌜ r ≡ min tooLong (before + listLength (stringsAt (now (text .entry)) (now (spans .entry)) count begin)) ⌝ }
 {
@@ -54,7 +54,7 @@ fn list(text: &[u8], spans: &[u32], begin: usize, count: usize, before: usize) -
 
 // The whole text.
 pub(crate) fn printed_length(policy: Policy, text: &[u8], spans: &[u32]) -> usize
-    requires { ⌜ AllInside (now spans) (now text) (stringCount (numbers policy)) 0 ⌝ }
+    requires { ⌜ SpansInside (now spans) (now text) (stringCount (numbers policy)) 0 ⌝ }
     requires { ⌜ stringCount (numbers policy) ≤ maxResponseOnly ⌝ }
     ensures { λ r. ⌜ r ≡ min tooLong (printedLength (policyOf policy (now (text .entry)) (now (spans .entry)))) ⌝ }
 {

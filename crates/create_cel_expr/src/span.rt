@@ -4,7 +4,7 @@ ghost use Prim.Native.Nat.{suc, _+_, _*_, _<_};
 ghost use lib.ListN.{length};
 ghost use Rattle.cel_policy.specs.Policy.{content, stringCount, numbers};
 ghost use Rattle.cel_policy.specs.Spans.{spanAt};
-ghost use Rattle.cel_policy.specs.Laws.Judging.{Inside};
+ghost use Rattle.cel_policy.specs.Laws.Judging.{SpanInside};
 use cel_policy::Policy;
 
 fn wide(word: u32) -> usize
@@ -31,7 +31,7 @@ pub(crate) fn to(spans: &[u32], i: usize) -> usize
 
 // String i.
 pub(crate) fn string<'a, 'b>(text: &'a [u8], spans: &'b [u32], i: usize) -> &'a [u8]
-    requires { ⌜ Inside (now spans) (now text) i ⌝ }
+    requires { ⌜ SpanInside (now spans) (now text) i ⌝ }
     ensures { λ r. ⌜ now r ≡ content (now (text .entry)) (spanAt (now (spans .entry)) i) ⌝ }
 {
     let start = from(spans, i);

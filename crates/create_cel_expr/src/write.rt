@@ -4,7 +4,7 @@ ghost use Rattle.cel_text.specs.Byte.{bytes};
 ghost use Rattle.cel_policy.specs.Policy.{content, stringCount, numbers};
 ghost use Rattle.cel_policy.specs.Spans.{spanAt};
 ghost use Rattle.cel_policy.specs.Printed.{listText, listKey, requestText, responseText, skipText, responseOnlyText, fullText, printed};
-ghost use Rattle.cel_policy.specs.Laws.Judging.{Inside, AllInside};
+ghost use Rattle.cel_policy.specs.Laws.Judging.{SpanInside, SpansInside};
 ghost use Rattle.pieces.specs.Pieces.{Wrote};
 ghost use Rattle.create_cel_expr.specs.Given.{policyOf, stringsAt};
 use crate::span;
@@ -15,7 +15,7 @@ use cel_policy::SKIP;
 
 // String i.
 fn string(out: &mut [u8], at: usize, text: &[u8], spans: &[u32], i: usize) -> usize
-    requires { ⌜ Inside (now spans) (now text) i ⌝ }
+    requires { ⌜ SpanInside (now spans) (now text) i ⌝ }
     ensures { λ r. ⌜ Wrote (now (out .entry)) (now (out .exit)) at r (content (now (text .entry)) (spanAt (now (spans .entry)) i)) ⌝ }
 {
     pieces::put(out, at, span::string(text, spans, i))
@@ -23,7 +23,7 @@ fn string(out: &mut [u8], at: usize, text: &[u8], spans: &[u32], i: usize) -> us
 
 // String i after the one before it.
 fn next(out: &mut [u8], at: usize, text: &[u8], spans: &[u32], i: usize) -> usize
-    requires { ⌜ Inside (now spans) (now text) i ⌝ }
+    requires { ⌜ SpanInside (now spans) (now text) i ⌝ }
     ensures { λ r. ⌜ Wrote (now (out .entry)) (now (out .exit)) at r (bytes "\",\"" ++ content (now (text .entry)) (spanAt (now (spans .entry)) i)) ⌝ }
 {
     let past = pieces::put(out, at, b"\",\"");
@@ -32,7 +32,7 @@ fn next(out: &mut [u8], at: usize, text: &[u8], spans: &[u32], i: usize) -> usiz
 
 // The first string of a list, after its quote.
 fn first(out: &mut [u8], at: usize, text: &[u8], spans: &[u32], i: usize) -> usize
-    requires { ⌜ Inside (now spans) (now text) i ⌝ }
+    requires { ⌜ SpanInside (now spans) (now text) i ⌝ }
     ensures { λ r. ⌜ Wrote (now (out .entry)) (now (out .exit)) at r (bytes "\"" ++ content (now (text .entry)) (spanAt (now (spans .entry)) i)) ⌝ }
 {
     let past = pieces::put(out, at, b"\"");
@@ -48,7 +48,7 @@ fn last(out: &mut [u8], at: usize) -> usize
 
 // The strings from string `begin` on, `count` of them.
 fn list(out: &mut [u8], at: usize, text: &[u8], spans: &[u32], begin: usize, count: usize) -> usize
-    requires { ⌜ AllInside (now spans) (now text) count begin ⌝ }
+    requires { ⌜ SpansInside (now spans) (now text) count begin ⌝ }
     ensures { λ r. ⌜ Wrote (now (out .entry)) (now (out .exit)) at r (listText (stringsAt (now (text .entry)) (now (spans .entry)) count begin)) ⌝ }
 {
     if count == 0 {
@@ -73,7 +73,7 @@ fn titled(
     begin: usize,
     count: usize,
 ) -> usize
-    requires { ⌜ AllInside (now spans) (now text) count begin ⌝ }
+    requires { ⌜ SpansInside (now spans) (now text) count begin ⌝ }
     ensures { λ r. ⌜ Wrote (now (out .entry)) (now (out .exit)) at r (now (title .entry) ++ listText (stringsAt (now (text .entry)) (now (spans .entry)) count begin)) ⌝ }
 {
     let past = pieces::put(out, at, title);
@@ -88,7 +88,7 @@ fn create_request_cel_expr(
     text: &[u8],
     spans: &[u32],
 ) -> usize
-    requires { ⌜ AllInside (now spans) (now text) (stringCount (numbers policy)) 0 ⌝ }
+    requires { ⌜ SpansInside (now spans) (now text) (stringCount (numbers policy)) 0 ⌝ }
     ensures { λ r. ⌜ Wrote (now (out .entry)) (now (out .exit)) at r (requestText (policyOf policy (now (text .entry)) (now (spans .entry)))) ⌝ }
 {
     let request = policy.request as usize;
@@ -132,7 +132,7 @@ fn create_response_cel_expr(
     text: &[u8],
     spans: &[u32],
 ) -> usize
-    requires { ⌜ AllInside (now spans) (now text) (stringCount (numbers policy)) 0 ⌝ }
+    requires { ⌜ SpansInside (now spans) (now text) (stringCount (numbers policy)) 0 ⌝ }
     ensures { λ r. ⌜ Wrote (now (out .entry)) (now (out .exit)) at r (responseText (policyOf policy (now (text .entry)) (now (spans .entry)))) ⌝ }
 {
     let begin = span::response(policy);
@@ -166,7 +166,7 @@ fn create_default_response_only_cel_expr(
     text: &[u8],
     spans: &[u32],
 ) -> usize
-    requires { ⌜ AllInside (now spans) (now text) (stringCount (numbers policy)) 0 ⌝ }
+    requires { ⌜ SpansInside (now spans) (now text) (stringCount (numbers policy)) 0 ⌝ }
     ensures { λ r. ⌜ Wrote (now (out .entry)) (now (out .exit)) 0 r (responseOnlyText (policyOf policy (now (text .entry)) (now (spans .entry)))) ⌝ }
 {
     let opened = pieces::put(
@@ -179,7 +179,7 @@ fn create_default_response_only_cel_expr(
 }
 
 fn create_default_full_cel_expr(out: &mut [u8], policy: Policy, text: &[u8], spans: &[u32]) -> usize
-    requires { ⌜ AllInside (now spans) (now text) (stringCount (numbers policy)) 0 ⌝ }
+    requires { ⌜ SpansInside (now spans) (now text) (stringCount (numbers policy)) 0 ⌝ }
     ensures { λ r. ⌜ Wrote (now (out .entry)) (now (out .exit)) 0 r (fullText (policyOf policy (now (text .entry)) (now (spans .entry)))) ⌝ }
 {
     let opened = pieces::put(
@@ -194,7 +194,7 @@ fn create_default_full_cel_expr(out: &mut [u8], policy: Policy, text: &[u8], spa
 
 // The whole text.
 pub(crate) fn create_cel_expr(out: &mut [u8], policy: Policy, text: &[u8], spans: &[u32]) -> usize
-    requires { ⌜ AllInside (now spans) (now text) (stringCount (numbers policy)) 0 ⌝ }
+    requires { ⌜ SpansInside (now spans) (now text) (stringCount (numbers policy)) 0 ⌝ }
     ensures { λ r. ⌜ Wrote (now (out .entry)) (now (out .exit)) 0 r (printed (policyOf policy (now (text .entry)) (now (spans .entry)))) ⌝ }
 {
     let form = policy.form;

@@ -2,6 +2,10 @@
 // settles that it is too long.
 mod input;
 
+ghost use mathlib.Core.List.{_++_};
+ghost use Rattle.cel_text.specs.Byte.{bytes};
+ghost use Rattle.pieces.specs.Pieces.{Wrote};
+ghost use Rattle.page.specs.Page.{shown, said};
 use libc::STDERR_FILENO;
 use libc::STDIN_FILENO;
 use libc::STDOUT_FILENO;
@@ -9,7 +13,11 @@ use libc::STDOUT_FILENO;
 fn put_help() {
     io::write_all(
         STDOUT_FILENO,
-        b"Usage: explain [FILE]\n\nExplains the certification expression in the file, or on standard input: the policy that it\nstands for, or why and where it is refused. What follows the expression is not looked at.\nBytes and nodes are counted from 0, lines and columns from 1.\n",
+        b"Usage: explain [FILE]\n\
+          \n\
+          Explains the certification expression in the file, or on standard input: the policy that it\n\
+          stands for, or why and where it is refused. What follows the expression is not looked at.\n\
+          Bytes and nodes are counted from 0, lines and columns from 1.\n",
     );
 }
 
@@ -22,10 +30,19 @@ fn show(text: &[u8]) {
     }
 }
 
+// Puts the beginning of a line that says that a file cannot be read, and answers its length. The name is shown like a text.
+fn unreadable(name: &[u8], out: &mut [u8]) -> usize
+    ensures { λ r. ⌜ Wrote (now (out .entry)) (now (out .exit)) 0 r (said (bytes "explain: cannot read \"") 0 ++ (shown (now (name .entry)) ++ said (bytes "\"") 0)) ⌝ }
+{
+    let end = page::say(out, 0, b"explain: cannot read \"", 0);
+    let end = page::put(out, end, name);
+    page::say(out, end, b"\"", 0)
+}
+
 // Says why a file cannot be read.
 fn refuse(path: &[u8]) {
     let mut out = io::large_buffer();
-    let n = report::unreadable(path, &mut out);
+    let n = unreadable(path, &mut out);
     os::fail(&out[..n]);
 }
 

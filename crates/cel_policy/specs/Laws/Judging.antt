@@ -6,7 +6,7 @@ use Prim.Native.Nat.{ℕ, zero, suc, _+_, _*_, _≤_, _<_}
 use native.Mathlib.Nat.{add-zero, not-suc-le-zero}
 use native.Mathlib.Omega.{arith}
 use mathlib.Core.Bool.{Bool, true, false, cond, _&&_}
-use mathlib.Core.List.{[], _∷_}
+use mathlib.Core.List.{[], _∷_, _++_}
 use mathlib.Core.Option.{Option, none, some}
 use lib.ListN.{length}
 use lib.Dec.{eqb, lit≤}
@@ -14,26 +14,27 @@ use borrow.Author.Tests.{ltb-true, leb-true, eqb-true}
 use Rattle.cel_text.specs.Byte.{Text}
 use Rattle.cel_text.specs.Table.{Words}
 use Rattle.cel_text.specs.Laws.Class.{by-test}
-use Rattle.cel_policy.specs.Policy.{Counted, stringCount, skip, responseOnly, full, noList, content}
-use Rattle.cel_policy.specs.Spans.{spanAt}
-use Rattle.cel_policy.specs.Printed.{aKind, shaped, maxResponseOnly, maxFull}
-use Rattle.cel_policy.specs.Answers.{spanFits, allOf, bytesFit, anyByte, firstFault, Judgement, clean, faulty, unlessFaulty, judgement, findPrint}
+use Rattle.cel_policy.specs.Policy.{Span, Policy, Counted, counted, stringCount, skip, responseOnly, full, noList, content, strings}
+use Rattle.cel_policy.specs.Spans.{spanTable, spanAt}
+use Rattle.cel_policy.specs.Printed.{printed, aKind, shaped, maxResponseOnly, maxFull}
+use Rattle.cel_policy.specs.Answers.{spanFits, allOf, bytesFit, anyByte, firstFault, Judgement, clean, faulty, unlessFaulty, judgement, sized, findPrint}
 use Rattle.cel_policy.specs.Laws.Shape.{both-true}
-use Rattle.cel_policy.specs.Laws.SpanTable.{Faultless, faultless-clean}
+use Rattle.cel_policy.specs.Laws.Readable.{Readable}
+use Rattle.cel_policy.specs.Laws.SpanTable.{Faultless, faultless-clean, read-faultless, print-read}
 
 -- ---- where the strings lie
 
 -- string i's span is in its table, ordered and inside the text
-pub record Inside (ws : Words) (x : Text) (i : ℕ) : Type 0 where
+pub record SpanInside (ws : Words) (x : Text) (i : ℕ) : Type 0 where
   pub inTable : suc (2 * i) < length ws
   pub ordered : spanAt ws i .from ≤ spanAt ws i .to
   pub inText : spanAt ws i .to ≤ length x
 
 -- the same of each of n strings from string i on
-abbrev pub AllInside : Words → Text → (n i : ℕ) → Type 0
-AllInside ws x n i = (k : ℕ) → k < n → Inside ws x (i + k)
+abbrev pub SpansInside : Words → Text → (n i : ℕ) → Type 0
+SpansInside ws x n i = (k : ℕ) → k < n → SpanInside ws x (i + k)
 
-pub spanFits-inside : (ws : Words) (x : Text) (i : ℕ) → spanFits ws x i ≡ true → Inside ws x i
+pub spanFits-inside : (ws : Words) (x : Text) (i : ℕ) → spanFits ws x i ≡ true → SpanInside ws x i
 unfolding spanFits
 spanFits-inside ws x i e =
     let a = both-true _ _ e in
@@ -52,7 +53,7 @@ none-faulty test (suc n) i e (suc k) h =
     let m : i + suc k ≡ suc i + k = omega arith in
     ap test m ∙ none-faulty test n (suc i) (passes (test i) (firstFault test n (suc i)) i e .1) k (omega arith)
 
-pub faultless-inside : {S : ℕ → Bool} {k : Counted} {ws : Words} {x : Text} → Faultless S k ws x → AllInside ws x (stringCount k) 0
+pub faultless-inside : {S : ℕ → Bool} {k : Counted} {ws : Words} {x : Text} → Faultless S k ws x → SpansInside ws x (stringCount k) 0
 faultless-inside {k = k} {ws = ws} {x = x} f j h = spanFits-inside ws x (0 + j) (none-faulty (spanFits ws x) (stringCount k) 0 (f .inside) j h)
 
 -- ---- how many they are
@@ -141,3 +142,9 @@ pub print-any : {S : ℕ → Bool} {k : Counted} {ws : Words} {x : Text} → Fau
 unfolding findPrint
 print-any {k = k} {ws = ws} {x = x} f r =
     rw (faultless-clean f, faultless-clean (record { shape = f .shape; inside = f .inside; plain = plain-any ws x (stringCount k) 0 }))
+
+-- so what was read is printed over all bytes, from any table that begins with its spans, as its text
+pub print-read-any :
+    (S : ℕ → Bool) (x : Text) (p : Policy Span) → Readable S x p → (ws : Words) (r : ℕ)
+    → findPrint anyByte (counted p) (spanTable p ++ ws) x r ≡ sized (printed (strings x p)) r
+print-read-any S x p read ws r = print-any (read-faultless S x p read ws) r ∙ print-read S x p read ws r

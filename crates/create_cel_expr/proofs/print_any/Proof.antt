@@ -17,8 +17,9 @@ same-length c = search needs
 
 returns : tie.Need-returns
 returns c =
-    let s = c .before .before .before .before .before .before .before .before in
-    told-by (numbers (s .args .policy)) (s .args .spans .now) (s .args .text .now) (c .before .before .before .before .over-any .result) (s .args .out .now) anyByte (c .before .before .before .before .over-any .ensures) (c .before .before .print-judged .ensures)
+    let a = c .before .before .before .before .before .before .before .before .args in
+    let j = c .before .before .before .before .over-any in
+    told-by (numbers (a .policy)) (a .spans .now) (a .text .now) (j .result) (a .out .now) anyByte (j .ensures) (c .before .before .print-judged .ensures)
 
 pub print-any-spec : {M : Type 1} → statement M
 print-any-spec = tie.close (tie.spec over-any-requires print-judged-requires same-length returns)

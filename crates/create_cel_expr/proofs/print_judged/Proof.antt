@@ -14,12 +14,13 @@ enum-known-judged c = search needs
 refused-requires : tie.Need-refused-requires
 refused-requires c κs =
     let s = c .before .before .before .before .before .before in
-    judges-small (numbers (s .args .policy)) (s .args .spans .now) (s .args .text .now) (s .pre) (c .before .judged .given .1)
+    let a = s .args in
+    judges-small (numbers (a .policy)) (a .spans .now) (a .text .now) (s .pre) (c .before .judged .given .1)
 
 returns : tie.Need-returns
 returns c =
-    let s = c .before .before .before .before .before .before .before in
-    told-faulty (numbers (s .args .policy)) (s .args .spans .now) (s .args .text .now) (s .args .judged) (s .args .out .now) (c .before .before .judged .given .1) (c .refused .ensures)
+    let a = c .before .before .before .before .before .before .before .args in
+    told-faulty (numbers (a .policy)) (a .spans .now) (a .text .now) (a .judged) (a .out .now) (c .before .before .judged .given .1) (c .refused .ensures)
 
 enum-told : tie.Need-enum-told
 enum-told c = search needs
@@ -27,30 +28,37 @@ enum-told c = search needs
 printed-length-requires : tie.Need-printed-length-requires
 printed-length-requires c κs =
     let s = c .before .before .before .before .before in
-    (judges-inside (numbers (s .args .policy)) (s .args .spans .now) (s .args .text .now) (s .pre) (c .enum-told .given .1), judges-few (numbers (s .args .policy)) (s .args .spans .now) (s .args .text .now) (s .pre) (c .enum-told .given .1))
+    let a = s .args in
+    let e = c .enum-told in
+    (judges-inside (numbers (a .policy)) (a .spans .now) (a .text .now) (s .pre) (e .given .1), judges-few (numbers (a .policy)) (a .spans .now) (a .text .now) (s .pre) (e .given .1))
 
 refused-requires-2 : tie.Need-refused-requires-2
 refused-requires-2 c κs = lit≤ tt
 
 returns-2 : tie.Need-returns-2
 returns-2 c =
-    let s = c .before .before .before .before .before .before .before .before in
-    told-clean (numbers (s .args .policy)) (s .args .spans .now) (s .args .text .now) (s .args .judged) (s .args .out .now) (c .before .before .before .enum-told .given .1)
-    (told-23 (policyOf (s .args .policy) (s .args .text .now) (s .args .spans .now)) (s .args .out .now) (c .before .before .printed-length .ensures) (c .before .if1 .taken) (c .refused2 .ensures))
+    let a = c .before .before .before .before .before .before .before .before .args in
+    let e = c .before .before .before .enum-told in
+    let l = c .before .before .printed-length in
+    told-clean (numbers (a .policy)) (a .spans .now) (a .text .now) (a .judged) (a .out .now) (e .given .1)
+    (told-23 (policyOf (a .policy) (a .text .now) (a .spans .now)) (a .out .now) (l .ensures) (c .before .if1 .taken) (c .refused2 .ensures))
 
 refused-requires-3 : tie.Need-refused-requires-3
 refused-requires-3 c κs = lit≤ tt
 
 returns-3 : tie.Need-returns-3
 returns-3 c =
-    let s = c .before .before .before .before .before .before .before .before .before in
-    told-clean (numbers (s .args .policy)) (s .args .spans .now) (s .args .text .now) (s .args .judged) (s .args .out .now) (c .before .before .before .before .enum-told .given .1)
-    (told-24 (policyOf (s .args .policy) (s .args .text .now) (s .args .spans .now)) (s .args .out .now) (c .before .before .before .printed-length .ensures) (c .before .before .if1 .left) (c .before .if2 .taken) (c .refused3 .ensures))
+    let a = c .before .before .before .before .before .before .before .before .before .args in
+    let e = c .before .before .before .before .enum-told in
+    let l = c .before .before .before .printed-length in
+    told-clean (numbers (a .policy)) (a .spans .now) (a .text .now) (a .judged) (a .out .now) (e .given .1)
+    (told-24 (policyOf (a .policy) (a .text .now) (a .spans .now)) (a .out .now) (l .ensures) (c .before .before .if1 .left) (c .before .if2 .taken) (c .refused3 .ensures))
 
 create-cel-expr-requires : tie.Need-create-cel-expr-requires
 create-cel-expr-requires c κs =
     let s = c .before .before .before .before .before .before .before .before .before in
-    judges-inside (numbers (s .args .policy)) (s .args .spans .now) (s .args .text .now) (s .pre) (c .before .before .before .before .enum-told .given .1)
+    let a = s .args in
+    judges-inside (numbers (a .policy)) (a .spans .now) (a .text .now) (s .pre) (c .before .before .before .before .enum-told .given .1)
 
 cast-t13 : tie.Need-cast-t13
 cast-t13 c = search needs
@@ -60,9 +68,12 @@ same-length c = search needs
 
 returns-4 : tie.Need-returns-4
 returns-4 c =
-    let s = c .before .before .before .before .before .before .before .before .before .before .before .before in
-    told-clean (numbers (s .args .policy)) (s .args .spans .now) (s .args .text .now) (s .args .judged) (s .args .out .now) (c .before .before .before .before .before .before .before .enum-told .given .1)
-    (told-written (policyOf (s .args .policy) (s .args .text .now) (s .args .spans .now)) (s .args .out .now) (c .before .before .before .before .before .before .printed-length .ensures) (c .before .before .before .before .before .if1 .left) (c .before .before .before .before .if2 .left) (c .before .before .create-cel-expr .ensures))
+    let a = c .before .before .before .before .before .before .before .before .before .before .before .before .args in
+    let e = c .before .before .before .before .before .before .before .enum-told in
+    let l = c .before .before .before .before .before .before .printed-length in
+    let t = c .before .before .before .before in
+    told-clean (numbers (a .policy)) (a .spans .now) (a .text .now) (a .judged) (a .out .now) (e .given .1)
+    (told-written (policyOf (a .policy) (a .text .now) (a .spans .now)) (a .out .now) (l .ensures) (t .before .if1 .left) (t .if2 .left) (c .before .before .create-cel-expr .ensures))
 
 pub print-judged-spec : {M : Type 1} → statement M
 print-judged-spec =

@@ -17,8 +17,9 @@ same-length c = search needs
 
 returns : tie.Need-returns
 returns c =
-    let s = c .before .before .before .before .before .before .before .before in
-    told-by (numbers (s .args .policy)) (s .args .spans .now) (s .args .text .now) (c .before .before .before .before .judge-policy .result) (s .args .out .now) stringSet (c .before .before .before .before .judge-policy .ensures) (c .before .before .print-judged .ensures)
+    let a = c .before .before .before .before .before .before .before .before .args in
+    let j = c .before .before .before .before .judge-policy in
+    told-by (numbers (a .policy)) (a .spans .now) (a .text .now) (j .result) (a .out .now) stringSet (j .ensures) (c .before .before .print-judged .ensures)
 
 pub print-policy-spec : {M : Type 1} → statement M
 print-policy-spec =

@@ -1,6 +1,8 @@
 -- `refuse` is safe: the line lies within its buffer. Assumes nothing.
 use mathlib.Core.Path.{sym}
 use lib.Seq.{length-take-le}
+use native.Mathlib.Omega.{arith}
+use Rattle.pieces.specs.Laws.{wrote-within}
 use borrow.Author.Needs.{needs}
 use Rattle.explain.proofs.refuse.Statement.{statement}
 use Rattle.explain.proofs.refuse.Tie as tie
@@ -18,7 +20,7 @@ array-share-prefix-out : tie.Need-array-share-prefix-out
 array-share-prefix-out c = search needs
 
 slice-aggregate-fail : tie.Need-slice-aggregate-fail
-slice-aggregate-fail c = sym (length-take-le (c .before .before .unreadable .result) (c .before .before .unreadable .last .1 .0) (c .before .before .unreadable .ensures .room))
+slice-aggregate-fail c = sym (length-take-le (c .before .before .unreadable .result) (c .before .before .unreadable .last .1 .0) (wrote-within (c .before .before .unreadable .ensures) (omega arith)))
 
 fail-requires : tie.Need-fail-requires
 fail-requires c κs = search needs

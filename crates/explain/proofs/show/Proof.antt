@@ -1,6 +1,8 @@
 -- `show` is safe: the report lies within its buffer. Assumes nothing.
 use mathlib.Core.Path.{sym}
 use lib.Seq.{length-take-le}
+use native.Mathlib.Omega.{arith}
+use Rattle.pieces.specs.Laws.{wrote-within}
 use borrow.Author.Needs.{needs}
 use Rattle.explain.proofs.show.Statement.{statement}
 use Rattle.explain.proofs.show.Tie as tie
@@ -18,7 +20,7 @@ array-share-prefix-out : tie.Need-array-share-prefix-out
 array-share-prefix-out c = search needs
 
 slice-aggregate-write-all : tie.Need-slice-aggregate-write-all
-slice-aggregate-write-all c = sym (length-take-le (c .before .before .report .result) (c .before .before .report .last .1 .0) (c .before .before .report .ensures .room))
+slice-aggregate-write-all c = sym (length-take-le (c .before .before .report .result) (c .before .before .report .last .1 .0) (wrote-within (c .before .before .report .ensures) (omega arith)))
 
 write-all-requires : tie.Need-write-all-requires
 write-all-requires c κs = search needs

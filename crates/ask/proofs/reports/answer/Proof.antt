@@ -3,6 +3,8 @@ use mathlib.Core.Path.{sym, subst}
 use lib.ListN.{length}
 use lib.Seq.{length-take-le}
 use Rattle.lines.specs.Fields.{AtMost}
+use native.Mathlib.Omega.{arith}
+use Rattle.pieces.specs.Laws.{wrote-within}
 use borrow.Author.Needs.{needs}
 use Rattle.ask.proofs.reports.answer.Statement.{statement}
 use Rattle.ask.proofs.reports.answer.Tie as tie
@@ -46,7 +48,7 @@ slice-aggregate-put : tie.Need-slice-aggregate-put
 slice-aggregate-put c = search needs
 
 put-requires : tie.Need-put-requires
-put-requires c κs = search needs
+put-requires c κs = wrote-within (c .before .before .before .before .report .ensures) (omega arith)
 
 same-length-2 : tie.Need-same-length-2
 same-length-2 c = search needs

@@ -1,7 +1,7 @@
 -- `judge::first_odd` meets its contract: at each turn the search from here on finds what the whole search finds. Assumes nothing.
 use mathlib.Core.Path.{subst}
-use native.Mathlib.Nat.{sub-zero, zero-add}
-use Rattle.cel_policy.specs.Laws.Judging.{Inside}
+use native.Mathlib.Nat.{zero-add, sub-zero}
+use Rattle.cel_policy.specs.Laws.Judging.{SpanInside}
 use Rattle.parser.specs.Set.{stringSet}
 use Prim.Native.Nat.{_-_}
 use Rattle.cel_policy.specs.Answers.{bytesFit}
@@ -22,12 +22,15 @@ loop-holds c = rw sub-zero
 plain-requires : tie.Need-plain-requires Inv-loop μ-loop
 plain-requires c κs =
     let s = c .before .before .before .before in
-    subst (Inside (s .args .spans .now) (s .args .text .now)) (zero-add (c .before .loop .i)) (s .pre (c .before .loop .i) (c .loop-test .taken))
+    let a = s .args in
+    let l = c .before .loop in
+    subst (SpanInside (a .spans .now) (a .text .now)) (zero-add (l .i)) (s .pre (l .i) (c .loop-test .taken))
 
 returns : tie.Need-returns Inv-loop μ-loop
 returns c =
-    let s = c .before .before .before .before .before .before in
-    search-found (bytesFit stringSet (s .args .spans .now) (s .args .text .now)) (s .args .count) 22 (c .before .before .loop-test .taken) (c .before .plain .ensures) (c .if1 .taken) (c .before .before .before .loop .inv)
+    let a = c .before .before .before .before .before .before .args in
+    let t = c .before .before .loop-test in
+    search-found (bytesFit stringSet (a .spans .now) (a .text .now)) (a .count) 22 (t .taken) (c .before .plain .ensures) (c .if1 .taken) (c .before .before .before .loop .inv)
 
 add-i : tie.Need-add-i Inv-loop μ-loop
 add-i c = search needs
@@ -37,13 +40,13 @@ loop-less c = search needs
 
 loop-again : tie.Need-loop-again Inv-loop μ-loop
 loop-again c =
-    let s = c .before .before .before .before .before .before in
-    search-on (bytesFit stringSet (s .args .spans .now) (s .args .text .now)) (s .args .count) (c .before .before .loop-test .taken) (c .before .plain .ensures) (c .if1 .left) (c .before .before .before .loop .inv)
+    let a = c .before .before .before .before .before .before .args in
+    search-on (bytesFit stringSet (a .spans .now) (a .text .now)) (a .count) (c .before .before .loop-test .taken) (c .before .plain .ensures) (c .if1 .left) (c .before .before .before .loop .inv)
 
 returns-2 : tie.Need-returns-2 Inv-loop μ-loop
 returns-2 c =
-    let s = c .before .before .before .before in
-    search-over (bytesFit stringSet (s .args .spans .now) (s .args .text .now)) (s .args .count) 22 (c .loop-test .left) (c .before .loop .inv)
+    let a = c .before .before .before .before .args in
+    search-over (bytesFit stringSet (a .spans .now) (a .text .now)) (a .count) 22 (c .loop-test .left) (c .before .loop .inv)
 
 pub first-odd-spec : {M : Type 1} → statement M
 first-odd-spec =

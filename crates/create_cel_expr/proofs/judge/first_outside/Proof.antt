@@ -21,8 +21,8 @@ inside-requires c κs = search needs
 
 returns : tie.Need-returns Inv-loop μ-loop
 returns c =
-    let s = c .before .before .before .before .before .before in
-    search-found (spanFits (s .args .spans .now) (s .args .text .now)) (s .args .count) 21 (c .before .before .loop-test .taken) (c .before .inside .ensures) (c .if1 .taken) (c .before .before .before .loop .inv)
+    let a = c .before .before .before .before .before .before .args in
+    search-found (spanFits (a .spans .now) (a .text .now)) (a .count) 21 (c .before .before .loop-test .taken) (c .before .inside .ensures) (c .if1 .taken) (c .before .before .before .loop .inv)
 
 add-i : tie.Need-add-i Inv-loop μ-loop
 add-i c = search needs
@@ -32,13 +32,13 @@ loop-less c = search needs
 
 loop-again : tie.Need-loop-again Inv-loop μ-loop
 loop-again c =
-    let s = c .before .before .before .before .before .before in
-    search-on (spanFits (s .args .spans .now) (s .args .text .now)) (s .args .count) (c .before .before .loop-test .taken) (c .before .inside .ensures) (c .if1 .left) (c .before .before .before .loop .inv)
+    let a = c .before .before .before .before .before .before .args in
+    search-on (spanFits (a .spans .now) (a .text .now)) (a .count) (c .before .before .loop-test .taken) (c .before .inside .ensures) (c .if1 .left) (c .before .before .before .loop .inv)
 
 returns-2 : tie.Need-returns-2 Inv-loop μ-loop
 returns-2 c =
-    let s = c .before .before .before .before in
-    search-over (spanFits (s .args .spans .now) (s .args .text .now)) (s .args .count) 21 (c .loop-test .left) (c .before .loop .inv)
+    let a = c .before .before .before .before .args in
+    search-over (spanFits (a .spans .now) (a .text .now)) (a .count) 21 (c .loop-test .left) (c .before .loop .inv)
 
 pub first-outside-spec : {M : Type 1} → statement M
 first-outside-spec =

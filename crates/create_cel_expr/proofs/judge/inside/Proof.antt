@@ -18,7 +18,8 @@ add-if1 c = search needs
 returns : tie.Need-returns
 unfolding spanFits
 returns c =
-    rw (le-ltb (suc (2 * c .before .before .before .args .i)) (length (c .before .before .before .args .spans .now)) (omega arith))
+    let a = c .before .before .before .args in
+    rw (le-ltb (suc (2 * a .i)) (length (a .spans .now)) (omega arith))
 
 from-requires : tie.Need-from-requires
 from-requires c κs = search needs
@@ -29,20 +30,20 @@ to-requires c κs = search needs
 returns-2 : tie.Need-returns-2
 unfolding spanFits
 returns-2 c =
-    let s = c .before .before .before .before .before .before in
-    let span = spanAt (s .args .spans .now) (s .args .i) in
+    let a = c .before .before .before .before .before .before .args in
+    let span = spanAt (a .spans .now) (a .i) in
     rw (
-      lt-ltb (suc (2 * s .args .i)) (length (s .args .spans .now)) (omega arith),
+      lt-ltb (suc (2 * a .i)) (length (a .spans .now)) (omega arith),
       lt-leb (span .from) (span .to) (omega (arith, c .before .before .from .ensures, c .before .to .ensures, c .if2 .taken)),
     )
 
 returns-3 : tie.Need-returns-3
 unfolding spanFits
 returns-3 c =
-    let s = c .before .before .before .before .before .before in
-    let span = spanAt (s .args .spans .now) (s .args .i) in
+    let a = c .before .before .before .before .before .before .args in
+    let span = spanAt (a .spans .now) (a .i) in
     rw (
-      lt-ltb (suc (2 * s .args .i)) (length (s .args .spans .now)) (omega arith),
+      lt-ltb (suc (2 * a .i)) (length (a .spans .now)) (omega arith),
       le-leb (span .from) (span .to) (omega (arith, c .before .before .from .ensures, c .before .to .ensures, c .if2 .left)),
       c .before .to .ensures,
     )

@@ -2,9 +2,9 @@
 use Rattle.cel_policy.specs.Policy.{numbers}
 use Rattle.parser.specs.Set.{stringSet}
 use Rattle.create_cel_expr.proofs.Judgings.{judged-faulty, judged-inside, judged-22}
+use borrow.Author.Needs.{needs}
 use Rattle.create_cel_expr.proofs.judge.over_set.Statement.{statement}
 use Rattle.create_cel_expr.proofs.judge.over_set.Tie as tie
-use borrow.Author.Needs.{needs}
 
 over-any-requires : tie.Need-over-any-requires
 over-any-requires c κs = search needs
@@ -20,18 +20,21 @@ count-requires c κs = search needs
 
 first-odd-requires : tie.Need-first-odd-requires
 first-odd-requires c κs =
-    let s = c .before .before .before .before .before .before in
-    judged-inside (numbers (s .args .policy)) (s .args .spans .now) (s .args .text .now) (c .before .before .before .over-any .result) (c .before .before .before .over-any .ensures) (c .before .enum-told2 .given .1) (c .count .ensures)
+    let a = c .before .before .before .before .before .before .args in
+    let j = c .before .before .before .over-any in
+    judged-inside (numbers (a .policy)) (a .spans .now) (a .text .now) (j .result) (j .ensures) (c .before .enum-told2 .given .1) (c .count .ensures)
 
 returns : tie.Need-returns
 returns c =
-    let s = c .before .before .before .before .before in
-    judged-faulty (numbers (s .args .policy)) (s .args .spans .now) (s .args .text .now) (c .before .before .over-any .result) (c .before .before .over-any .ensures) stringSet (c .enum-told .given .1)
+    let a = c .before .before .before .before .before .args in
+    let j = c .before .before .over-any in
+    judged-faulty (numbers (a .policy)) (a .spans .now) (a .text .now) (j .result) (j .ensures) stringSet (c .enum-told .given .1)
 
 returns-2 : tie.Need-returns-2
 returns-2 c =
-    let s = c .before .before .before .before .before .before .before in
-    judged-22 (numbers (s .args .policy)) (s .args .spans .now) (s .args .text .now) (c .before .before .before .before .over-any .result) (c .before .before .before .before .over-any .ensures) stringSet (c .before .before .enum-told2 .given .1) (c .before .count .ensures) (c .first-odd .ensures)
+    let a = c .before .before .before .before .before .before .before .args in
+    let j = c .before .before .before .before .over-any in
+    judged-22 (numbers (a .policy)) (a .spans .now) (a .text .now) (j .result) (j .ensures) stringSet (c .before .before .enum-told2 .given .1) (c .before .count .ensures) (c .first-odd .ensures)
 
 pub over-set-spec : {M : Type 1} → statement M
 over-set-spec =

@@ -25,21 +25,26 @@ response-requires c κs = search needs
 
 returns-5 : tie.Need-returns-5
 returns-5 c =
-    let s = c .before .before .before .before .before .before .before in
-    response-request (numbers (s .args .policy)) (c .before .before .if5 .taken) (kind-some (s .args .policy .kind) (c .before .before .before .before .if3 .left) (c .before .before .before .if4 .left)) (c .before .response .ensures) (c .if6 .taken)
+    let p = c .before .before .before .before .before .before .before .args .policy in
+    let kind = kind-some (p .kind) (c .before .before .before .before .if3 .left) (c .before .before .before .if4 .left) in
+    response-request (numbers p) (c .before .before .if5 .taken) kind (c .before .response .ensures) (c .if6 .taken)
 
 returns-6 : tie.Need-returns-6
 returns-6 c =
-    let s = c .before .before .before .before .before .before .before in
-    response-count (numbers (s .args .policy)) (c .before .before .if5 .taken) (kind-some (s .args .policy .kind) (c .before .before .before .before .if3 .left) (c .before .before .before .if4 .left)) (c .before .response .ensures) (c .if6 .left) (c .before .before .before .before .before .before .count .ensures)
+    let p = c .before .before .before .before .before .before .before .args .policy in
+    let n = c .before .before .before .before .before .before .count in
+    let kind = kind-some (p .kind) (c .before .before .before .before .if3 .left) (c .before .before .before .if4 .left) in
+    response-count (numbers p) (c .before .before .if5 .taken) kind (c .before .response .ensures) (c .if6 .left) (n .ensures)
 
 returns-7 : tie.Need-returns-7
 returns-7 c = no-form (numbers (c .before .before .before .before .before .before .args .policy)) (c .before .before .before .before .if1 .left) (c .before .if5 .left) (c .if7 .taken)
 
 returns-8 : tie.Need-returns-8
 returns-8 c =
-    let s = c .before .before .before .before .before .before in
-    full-count (numbers (s .args .policy)) (c .if7 .left) (kind-some (s .args .policy .kind) (c .before .before .before .if3 .left) (c .before .before .if4 .left)) (c .before .before .before .before .before .count .ensures)
+    let p = c .before .before .before .before .before .before .args .policy in
+    let n = c .before .before .before .before .before .count in
+    let kind = kind-some (p .kind) (c .before .before .before .if3 .left) (c .before .before .if4 .left) in
+    full-count (numbers p) (c .if7 .left) kind (n .ensures)
 
 pub shape-spec : {M : Type 1} → statement M
 shape-spec =

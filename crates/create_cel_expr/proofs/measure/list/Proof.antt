@@ -7,8 +7,8 @@ use native.Mathlib.Omega.{arith}
 
 returns : tie.Need-returns
 returns c =
-    let s = c .before .before .before in
-    omega (arith, list-zero (s .args .text .now) (s .args .spans .now) (s .args .begin) (s .args .count) (c .if1 .taken))
+    let a = c .before .before .before .args in
+    omega (arith, list-zero (a .text .now) (a .spans .now) (a .begin) (a .count) (c .if1 .taken))
 
 strings-requires : tie.Need-strings-requires
 strings-requires c κs = search needs
@@ -24,8 +24,8 @@ sum-requires c κs = search needs
 
 returns-2 : tie.Need-returns-2
 returns-2 c =
-    let s = c .before .before .before .before .before in
-    omega (arith, c .sum .ensures, c .before .strings .ensures, list-some (s .args .text .now) (s .args .spans .now) (s .args .begin) (s .args .count) (c .before .before .if1 .left))
+    let a = c .before .before .before .before .before .args in
+    omega (arith, c .sum .ensures, c .before .strings .ensures, list-some (a .text .now) (a .spans .now) (a .begin) (a .count) (c .before .before .if1 .left))
 
 pub list-spec : {M : Type 1} → statement M
 list-spec = tie.close (tie.spec returns strings-requires mul-sum sub-sum sum-requires returns-2)

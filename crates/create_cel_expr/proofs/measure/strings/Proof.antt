@@ -12,7 +12,8 @@ use borrow.Author.Needs.{needs}
 use native.Mathlib.Omega.{arith}
 
 abbrev Inv-loop : tie.InvT-loop
-Inv-loop text spans begin count before length₀ i₀ length i = (length ≤ tooLong) × (min tooLong (length + total (leftOf text spans begin count i)) ≡ min tooLong (before + total (stringsAt text spans count begin)))
+Inv-loop text spans begin count before length₀ i₀ length i =
+    (length ≤ tooLong) × (min tooLong (length + total (leftOf text spans begin count i)) ≡ min tooLong (before + total (stringsAt text spans count begin)))
 
 abbrev μ-loop : tie.MeasureT-loop
 μ-loop text spans begin count before length₀ i₀ length i = count - i
@@ -21,10 +22,14 @@ loop-holds : tie.Need-loop-holds Inv-loop μ-loop
 loop-holds c = (c .before .before .pre .1, rw (sub-zero, add-zero))
 
 add-string : tie.Need-add-string Inv-loop μ-loop
-add-string c = record { fits = omega (arith, c .before .before .before .before .pre .0 (c .before .loop .i) (c .loop-test .taken) .inTable) }
+add-string c =
+    let s = c .before .before .before .before in
+    record { fits = omega (arith, s .pre .0 (c .before .loop .i) (c .loop-test .taken) .inTable) }
 
 string-requires : tie.Need-string-requires Inv-loop μ-loop
-string-requires c κs = c .before .before .before .before .pre .0 (c .before .loop .i) (c .loop-test .taken)
+string-requires c κs =
+    let s = c .before .before .before .before in
+    s .pre .0 (c .before .loop .i) (c .loop-test .taken)
 
 sum-requires : tie.Need-sum-requires Inv-loop μ-loop
 sum-requires c κs = search needs
@@ -37,13 +42,15 @@ loop-less c = search needs
 
 loop-again : tie.Need-loop-again Inv-loop μ-loop
 loop-again c =
-    let s = c .before .before .before .before .before .before in
-    total-turn (s .args .text .now) (s .args .spans .now) (s .args .begin) (s .args .count) (c .before .before .before .loop .i) (c .before .before .before .loop .length) _ (c .before .before .loop-test .taken) (ap length (c .before .string .ensures)) (c .sum .ensures) (c .before .before .before .loop .inv .1)
+    let a = c .before .before .before .before .before .before .args in
+    let l = c .before .before .before .loop in
+    total-turn (a .text .now) (a .spans .now) (a .begin) (a .count) (l .i) (l .length) _ (c .before .before .loop-test .taken) (ap length (c .before .string .ensures)) (c .sum .ensures) (l .inv .1)
 
 returns : tie.Need-returns Inv-loop μ-loop
 returns c =
-    let s = c .before .before .before .before in
-    total-end (s .args .text .now) (s .args .spans .now) (s .args .begin) (s .args .count) (c .before .loop .length) (c .loop-test .left) (c .before .loop .inv .0) (c .before .loop .inv .1)
+    let a = c .before .before .before .before .args in
+    let l = c .before .loop in
+    total-end (a .text .now) (a .spans .now) (a .begin) (a .count) (l .length) (c .loop-test .left) (l .inv .0) (l .inv .1)
 
 pub strings-spec : {M : Type 1} → statement M
 strings-spec =

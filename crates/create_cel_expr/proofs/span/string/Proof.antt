@@ -23,8 +23,8 @@ part-result-end c = search needs
 
 returns : tie.Need-returns
 returns c =
-    let s = c .before .before .before .before .before in
-    part-slice (c .before .before .from .result) (c .before .to .result) (s .args .text .now) ∙ (λ k. slice (c .before .before .from .ensures k) (c .before .to .ensures k) (s .args .text .now))
+    let x = c .before .before .before .before .before .args .text .now in
+    part-slice (c .before .before .from .result) (c .before .to .result) x ∙ (λ k. slice (c .before .before .from .ensures k) (c .before .to .ensures k) x)
 
 pub string-spec : {M : Type 1} → statement M
 string-spec =

@@ -15,7 +15,8 @@ same-length c = search needs
 returns : tie.Need-returns
 unfolding printed
 returns c =
-    rw (eq-eqb (c .before .before .before .before .before .before .before .before .args .policy .form) skip (c .before .before .before .before .if1 .taken)) (c .before .before .create-default-skip-cel-expr .ensures)
+    let p = c .before .before .before .before .before .before .before .before .args .policy in
+    rw (eq-eqb (p .form) skip (c .before .before .before .before .if1 .taken)) (c .before .before .create-default-skip-cel-expr .ensures)
 
 create-default-response-only-cel-expr-requires :
     tie.Need-create-default-response-only-cel-expr-requires
@@ -27,7 +28,11 @@ same-length-2 c = search needs
 returns-2 : tie.Need-returns-2
 unfolding printed
 returns-2 c =
-    rw (ne-eqb (c .before .before .before .before .before .before .before .before .before .args .policy .form) skip (c .before .before .before .before .before .if1 .left), eq-eqb (c .before .before .before .before .before .before .before .before .before .args .policy .form) responseOnly (c .before .before .before .before .if2 .taken)) (c .before .before .create-default-response-only-cel-expr .ensures)
+    let p = c .before .before .before .before .before .before .before .before .before .args .policy in
+    rw (
+      ne-eqb (p .form) skip (c .before .before .before .before .before .if1 .left),
+      eq-eqb (p .form) responseOnly (c .before .before .before .before .if2 .taken),
+    ) (c .before .before .create-default-response-only-cel-expr .ensures)
 
 create-default-full-cel-expr-requires : tie.Need-create-default-full-cel-expr-requires
 create-default-full-cel-expr-requires c κs = search needs
@@ -38,7 +43,11 @@ same-length-3 c = search needs
 returns-3 : tie.Need-returns-3
 unfolding printed
 returns-3 c =
-    rw (ne-eqb (c .before .before .before .before .before .before .before .before .before .args .policy .form) skip (c .before .before .before .before .before .if1 .left), ne-eqb (c .before .before .before .before .before .before .before .before .before .args .policy .form) responseOnly (c .before .before .before .before .if2 .left)) (c .before .before .create-default-full-cel-expr .ensures)
+    let p = c .before .before .before .before .before .before .before .before .before .args .policy in
+    rw (
+      ne-eqb (p .form) skip (c .before .before .before .before .before .if1 .left),
+      ne-eqb (p .form) responseOnly (c .before .before .before .before .if2 .left),
+    ) (c .before .before .create-default-full-cel-expr .ensures)
 
 pub create-cel-expr-spec : {M : Type 1} → statement M
 create-cel-expr-spec =

@@ -1,9 +1,9 @@
 -- `write::create_default_response_only_cel_expr` meets its contract: three pieces, one after the other. Assumes nothing.
 use Rattle.cel_policy.specs.Printed.{responseOnlyText}
 use Rattle.pieces.specs.Laws.{wrote-then}
-use borrow.Author.Needs.{needs}
 use Rattle.create_cel_expr.proofs.write.create_default_response_only_cel_expr.Statement.{statement}
 use Rattle.create_cel_expr.proofs.write.create_default_response_only_cel_expr.Tie as tie
+use borrow.Author.Needs.{needs}
 
 slice-aggregate-put : tie.Need-slice-aggregate-put
 slice-aggregate-put c = search needs
@@ -26,7 +26,9 @@ same-length c = search needs
 returns : tie.Need-returns
 unfolding responseOnlyText
 returns c =
-    wrote-then (c .before .before .before .before .before .before .before .before .before .before .before .put .ensures) (wrote-then (c .before .before .before .before .before .before .before .create-response-cel-expr .ensures) (c .before .before .put2 .ensures))
+    let o = c .before .before .before .before .before .before .before .before .before .before .before .put in
+    let r = c .before .before .before .before .before .before .before .create-response-cel-expr in
+    wrote-then (o .ensures) (wrote-then (r .ensures) (c .before .before .put2 .ensures))
 
 pub create-default-response-only-cel-expr-spec : {M : Type 1} → statement M
 create-default-response-only-cel-expr-spec =

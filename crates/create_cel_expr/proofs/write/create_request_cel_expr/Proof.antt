@@ -2,10 +2,11 @@
 use Rattle.cel_policy.specs.Policy.{numbers}
 use Rattle.cel_policy.specs.Printed.{requestText}
 use Rattle.pieces.specs.Laws.{wrote-then}
-use Rattle.create_cel_expr.proofs.Lists.{inside-request, inside-query}
+use Rattle.create_cel_expr.proofs.Lists.{inside-part}
 use borrow.Author.Needs.{needs}
 use Rattle.create_cel_expr.proofs.write.create_request_cel_expr.Statement.{statement}
 use Rattle.create_cel_expr.proofs.write.create_request_cel_expr.Tie as tie
+use native.Mathlib.Omega.{arith}
 
 cast-request : tie.Need-cast-request
 cast-request c = search needs
@@ -17,13 +18,17 @@ slice-aggregate-titled : tie.Need-slice-aggregate-titled
 slice-aggregate-titled c = search needs
 
 titled-requires : tie.Need-titled-requires
-titled-requires c κs = inside-request (numbers (c .before .before .before .before .before .before .before .args .policy)) (c .before .before .before .before .before .before .before .pre)
+titled-requires c κs =
+    let s = c .before .before .before .before .before .before .before in
+    inside-part (numbers (s .args .policy)) (s .pre) 0 (s .args .policy .request) (omega arith)
 
 slice-aggregate-titled-2 : tie.Need-slice-aggregate-titled-2
 slice-aggregate-titled-2 c = search needs
 
 titled-requires-2 : tie.Need-titled-requires-2
-titled-requires-2 c κs = inside-query (numbers (c .before .before .before .before .before .before .before .before .before .before .before .before .args .policy)) (c .before .before .before .before .before .before .before .before .before .before .before .before .pre)
+titled-requires-2 c κs =
+    let s = c .before .before .before .before .before .before .before .before .before .before .before .before in
+    inside-part (numbers (s .args .policy)) (s .pre) (s .args .policy .request) (s .args .policy .query) (omega arith)
 
 slice-aggregate-put : tie.Need-slice-aggregate-put
 slice-aggregate-put c = search needs
@@ -37,7 +42,9 @@ same-length c = search needs
 returns : tie.Need-returns
 unfolding requestText
 returns c =
-    wrote-then (c .before .before .before .before .before .before .before .before .before .before .before .before .titled .ensures) (wrote-then (c .before .before .before .before .before .before .before .titled2 .ensures) (c .before .before .put .ensures))
+    let h = c .before .before .before .before .before .before .before .before .before .before .before .before .titled in
+    let q = c .before .before .before .before .before .before .before .titled2 in
+    wrote-then (h .ensures) (wrote-then (q .ensures) (c .before .before .put .ensures))
 
 pub create-request-cel-expr-spec : {M : Type 1} → statement M
 create-request-cel-expr-spec =

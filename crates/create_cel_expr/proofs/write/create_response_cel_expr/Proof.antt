@@ -3,10 +3,11 @@ use mathlib.Core.Path.{sym}
 use Rattle.cel_policy.specs.Policy.{numbers}
 use Rattle.cel_policy.specs.Printed.{responseText}
 use Rattle.pieces.specs.Laws.{wrote-then}
-use Rattle.create_cel_expr.proofs.Lists.{inside-response}
+use Rattle.create_cel_expr.proofs.Lists.{inside-part}
 use borrow.Author.Needs.{needs}
 use Rattle.create_cel_expr.proofs.write.create_response_cel_expr.Statement.{statement}
 use Rattle.create_cel_expr.proofs.write.create_response_cel_expr.Tie as tie
+use native.Mathlib.Omega.{arith}
 
 response-requires : tie.Need-response-requires
 response-requires c κs = search needs
@@ -27,7 +28,10 @@ cast-titled : tie.Need-cast-titled
 cast-titled c = search needs
 
 titled-requires : tie.Need-titled-requires
-titled-requires c κs = inside-response (numbers (c .before .before .before .before .before .before .before .before .before .before .before .before .before .before .before .before .args .policy)) (c .before .before .before .before .before .before .before .before .before .before .before .before .before .before .before .before .pre) (c .before .before .before .before .before .before .before .before .before .before .before .before .response .ensures)
+titled-requires c κs =
+    let s = c .before .before .before .before .before .before .before .before .before .before .before .before .before .before .before .before in
+    let b = c .before .before .before .before .before .before .before .before .before .before .before .before .response in
+    inside-part (numbers (s .args .policy)) (s .pre) (b .result) (s .args .policy .response) (omega (arith, b .ensures))
 
 slice-aggregate-put-2 : tie.Need-slice-aggregate-put-2
 slice-aggregate-put-2 c = search needs
@@ -41,7 +45,11 @@ same-length c = search needs
 returns : tie.Need-returns
 unfolding responseText
 returns c =
-    rw (sym (c .before .before .before .before .before .before .before .before .before .before .before .before .before .before .before .before .before .before .before .before .response .ensures)) (wrote-then (c .before .before .before .before .before .before .before .before .before .before .before .before .before .before .before .before .before .put .ensures) (wrote-then (c .before .before .before .before .before .before .before .before .before .before .before .before .before .list-key .ensures) (wrote-then (c .before .before .before .before .before .before .before .titled .ensures) (c .before .before .put2 .ensures))))
+    let l = c .before .before .before .before .before .before .before .titled in
+    let k = c .before .before .before .before .before .before .before .before .before .before .before .before .before .list-key in
+    let o = c .before .before .before .before .before .before .before .before .before .before .before .before .before .before .before .before .before .put in
+    let b = c .before .before .before .before .before .before .before .before .before .before .before .before .before .before .before .before .before .before .before .before .response in
+    rw (sym (b .ensures)) (wrote-then (o .ensures) (wrote-then (k .ensures) (wrote-then (l .ensures) (c .before .before .put2 .ensures))))
 
 pub create-response-cel-expr-spec : {M : Type 1} → statement M
 create-response-cel-expr-spec =

@@ -25,10 +25,15 @@ returns : tie.Need-returns Inv-loop μ-loop
 returns c = c .before .before .before .before .read-more .ensures .1
 
 loop-less : tie.Need-loop-less Inv-loop μ-loop
-loop-less c = omega (arith, c .before .before .before .before .read-more .ensures .0, c .before .before .before .before .read-more .ensures .1, c .before .before .before .before .read-more .kept .1 .0)
+loop-less c =
+    let u = c .before .before .before .before in
+    omega (arith, u .read-more .ensures .0, u .read-more .ensures .1, u .read-more .kept .1 .0)
 
 loop-again : tie.Need-loop-again Inv-loop μ-loop
-loop-again c = (c .before .before .before .before .read-more .ensures .1, c .before .before .before .before .read-more .kept .1 .0 ∙ c .before .before .before .before .before .before .before .loop .inv .1)
+loop-again c =
+    let u = c .before .before .before .before in
+    let v = u .before .before .before in
+    (u .read-more .ensures .1, u .read-more .kept .1 .0 ∙ v .loop .inv .1)
 
 same-length-2 : tie.Need-same-length-2 Inv-loop μ-loop
 same-length-2 c = c .before .loop .inv .1

@@ -1,71 +1,71 @@
--- `policy::put_strings` meets its contract: each string leaves a page, and only strings that the table has are looked at. Assumes nothing.
-use mathlib.Core.Path.{_≡_, refl, _∙_}
-use Prim.Native.Nat.{_-_}
-use lib.ListN.{length}
-use Rattle.page.specs.Shown.{Shown}
+-- `policy::put_strings` meets its contract: each string is one piece more. Assumes nothing.
+use mathlib.Core.Path.{_≡_}
+use Prim.Native.Nat.{_-_, _≤_}
+use Rattle.cel_policy.specs.Spans.{spansAt}
+use Rattle.pieces.specs.Pieces.{Wrote}
+use Rattle.pieces.specs.Laws.{wrote-none, wrote-then, wrote-length}
+use Rattle.report.specs.Policy.{stringsText}
+use Rattle.report.proofs.Parts.{strings-more}
 use Rattle.report.proofs.policy.put_strings.Statement.{statement}
 use Rattle.report.proofs.policy.put_strings.Tie as tie
-use borrow.Author.Needs.{needs}
+use native.Mathlib.Omega.{arith}
 
 abbrev Inv-loop : tie.InvT-loop
-Inv-loop out₀ at text spans first last end₀ i₀ out end i = (Shown out end) × (length out ≡ length out₀)
+Inv-loop out₀ at text spans first count end₀ i₀ out end i = (Wrote out₀ out at end (stringsText text (spansAt spans i first))) × (i ≤ count)
 
 abbrev μ-loop : tie.MeasureT-loop
-μ-loop out₀ at text spans first last end₀ i₀ out end i = last - i
+μ-loop out₀ at text spans first count end₀ i₀ out end i = count - i
 
 loop-holds : tie.Need-loop-holds Inv-loop μ-loop
-loop-holds c = (c .before .before .before .pre, refl)
+loop-holds c = (wrote-none (c .before .before .before .args .out .now) (c .before .before .before .args .at), omega arith)
 
-same-length : tie.Need-same-length Inv-loop μ-loop
-same-length c = c .before .before .loop .inv .1
+add-word-of : tie.Need-add-word-of Inv-loop μ-loop
+add-word-of c = omega arith
 
-returns : tie.Need-returns Inv-loop μ-loop
-returns c = c .before .before .loop .inv .0
+mul-word-of : tie.Need-mul-word-of Inv-loop μ-loop
+mul-word-of c = omega arith
 
-mul-wide : tie.Need-mul-wide Inv-loop μ-loop
-mul-wide c = search needs
+word-of-requires : tie.Need-word-of-requires Inv-loop μ-loop
+word-of-requires c κs = tt
 
-mul-wide-2 : tie.Need-mul-wide-2 Inv-loop μ-loop
-mul-wide-2 c = search needs
+add-word-of-2 : tie.Need-add-word-of-2 Inv-loop μ-loop
+add-word-of-2 c = omega arith
 
-shared-slice-read-wide : tie.Need-shared-slice-read-wide Inv-loop μ-loop
-shared-slice-read-wide c = search needs
+mul-word-of-2 : tie.Need-mul-word-of-2 Inv-loop μ-loop
+mul-word-of-2 c = omega arith
 
-wide-requires : tie.Need-wide-requires Inv-loop μ-loop
-wide-requires c κs = search needs
+add-word-of-3 : tie.Need-add-word-of-3 Inv-loop μ-loop
+add-word-of-3 c = omega arith
 
-mul-wide-3 : tie.Need-mul-wide-3 Inv-loop μ-loop
-mul-wide-3 c = search needs
-
-add-wide : tie.Need-add-wide Inv-loop μ-loop
-add-wide c = search needs
-
-mul-wide-4 : tie.Need-mul-wide-4 Inv-loop μ-loop
-mul-wide-4 c = search needs
-
-shared-slice-read-wide-2 : tie.Need-shared-slice-read-wide-2 Inv-loop μ-loop
-shared-slice-read-wide-2 c = search needs
-
-wide-requires-2 : tie.Need-wide-requires-2 Inv-loop μ-loop
-wide-requires-2 c κs = search needs
+word-of-requires-2 : tie.Need-word-of-requires-2 Inv-loop μ-loop
+word-of-requires-2 c κs = tt
 
 put-string-requires : tie.Need-put-string-requires Inv-loop μ-loop
-put-string-requires c κs = c .before .before .before .before .before .before .before .loop .inv .0
+put-string-requires c κs = tt
 
 add-i : tie.Need-add-i Inv-loop μ-loop
-add-i c = search needs
+add-i c = omega arith
 
 loop-less : tie.Need-loop-less Inv-loop μ-loop
-loop-less c = search needs
+loop-less c = omega arith
 
 loop-again : tie.Need-loop-again Inv-loop μ-loop
-loop-again c = (c .before .before .put-string .ensures, c .before .before .put-string .kept .0 ∙ c .before .before .before .before .before .before .before .before .before .before .loop .inv .1)
+loop-again c =
+    let s = c .before .before .before .before .before .before .before .before .before .before .before in
+    let l = c .before .before .before .before .before .before .before .loop in
+    let f = c .before .before .before .before .before .word-of in
+    let t = c .before .before .before .before .word-of2 in
+    let more = strings-more (s .args .text .now) (s .args .spans .now) (s .args .first) (l .i) (f .result) (t .result) (f .ensures) (t .ensures) in
+    (rw (← more) (wrote-then (l .inv .0) (c .before .before .put-string .ensures)), omega arith)
 
-same-length-2 : tie.Need-same-length-2 Inv-loop μ-loop
-same-length-2 c = c .before .loop .inv .1
+same-length : tie.Need-same-length Inv-loop μ-loop
+same-length c = wrote-length (c .before .loop .inv .0)
 
-returns-2 : tie.Need-returns-2 Inv-loop μ-loop
-returns-2 c = c .before .loop .inv .0
+returns : tie.Need-returns Inv-loop μ-loop
+returns c =
+    let l = c .before .loop in
+    let e : l .i ≡ c .before .before .before .before .before .args .count = omega arith in
+    rw e at (l .inv .0)
 
 pub put-strings-spec : {M : Type 1} → statement M
 put-strings-spec =
@@ -74,20 +74,16 @@ put-strings-spec =
     Inv-loop
     μ-loop
     loop-holds
-    same-length
-    returns
-    mul-wide
-    mul-wide-2
-    shared-slice-read-wide
-    wide-requires
-    mul-wide-3
-    add-wide
-    mul-wide-4
-    shared-slice-read-wide-2
-    wide-requires-2
+    add-word-of
+    mul-word-of
+    word-of-requires
+    add-word-of-2
+    mul-word-of-2
+    add-word-of-3
+    word-of-requires-2
     put-string-requires
     add-i
     loop-less
     loop-again
-    same-length-2
-    returns-2)
+    same-length
+    returns)

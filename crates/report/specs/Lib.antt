@@ -1,0 +1,7 @@
+pub mod Words
+pub mod Window
+pub mod Node
+pub mod Policy
+pub mod Refusal
+pub mod Report
+pub mod Laws
