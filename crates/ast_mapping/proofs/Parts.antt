@@ -6,11 +6,11 @@ use mathlib.Core.List.{List}
 use mathlib.Core.Option.{Option, none, some}
 use Rattle.cel_text.specs.Byte.{Text}
 use Rattle.cel_text.specs.Tree.{object, function}
-use Rattle.cel_text.specs.Table.{Words}
+use Rattle.cel_text.specs.Table.{Words, word}
 use Rattle.cel_policy.specs.Policy.{Span, Policy}
 use Rattle.cel_policy.specs.Mapping.{Node, Nodes, childless, _▹_∶_, Refusal, Mapped, good, bad, andThen, Typed, Request, Only, first, second, exactlyOne, typed, lookup, present, stringArray, headersOf, listOf, responseLists, responsePart, listAt, requestLists, requestOf, requestPart, certified, certificationParts, certificationOf, validationArgs, firstOf, firstChild, mapping}
 use Rattle.cel_policy.specs.Laws.Natural.{overMapped, overOnly}
-use Rattle.ast_mapping.specs.View.{word, stringsOf, nodeAt, children, typedAt, Held, Tabled}
+use Rattle.ast_mapping.specs.View.{stringsOf, nodeAt, children, typedAt, Held, Tabled}
 use Rattle.ast_mapping.specs.Steps.{foundAs, numbered, FoundIf, OnlyIf, Looked, told, uses, checkAs, onlyAs, Listing, Headed, Requested, Responded, requestAs, RequestIn, certifiedAs, mappedAs, MappedIn, Maps}
 use Rattle.ast_mapping.specs.declared.row.Found.{Found}
 use Rattle.ast_mapping.specs.declared.row.Found.the-variants.{At, Nothing}

@@ -86,20 +86,26 @@ fault-spans (suc zero) l h s long = rw (take-all spanWords s (omega arith), long
 fault-spans (suc (suc r)) l h s long =
     let some : suc (suc r) ≡ 1 → ⊥ = λ e. omega arith in
     let none : drop spanWords s ≡ [] = drop-of-length-le s {i = spanWords} (omega arith) in
-    rw (ne-eqb (suc (suc r)) 1 some, le-leb 2 (suc (suc r)) (omega arith), le-leb (suc (suc r)) 16 (omega arith), long, none)
+    rw (ne-eqb (suc (suc r)) 0 (λ e. omega arith), ne-eqb (suc (suc r)) 1 some, le-leb 2 (suc (suc r)) (omega arith), le-leb (suc (suc r)) 16 (omega arith), long, none)
 
-left-filled : (r : ℕ) → 7 ≤ r → nodesLeft r ≡ filled
-left-filled r h = let some : r ≡ 1 → ⊥ = λ e. omega arith in rw (ne-eqb r 1 some, lt-ltb 1 r (omega arith), lt-leb r 6 h)
+left-filled : (r : ℕ) → 7 ≤ r → r ≤ 16 → nodesLeft r ≡ filled
+left-filled r h k =
+    let some : r ≡ 0 → ⊥ = λ e. omega arith in
+    let other : r ≡ 1 → ⊥ = λ e. omega arith in
+    rw (ne-eqb r 0 some, ne-eqb r 1 other, le-leb 7 r h, le-leb r 16 k)
 
 left-cleared : (r : ℕ) → 7 ≤ r → spansLeft r ≡ cleared
-left-cleared r h = let some : r ≡ 1 → ⊥ = λ e. omega arith in rw (ne-eqb r 1 some, lt-ltb 1 r (omega arith))
+left-cleared r h =
+    let some : r ≡ 0 → ⊥ = λ e. omega arith in
+    let other : r ≡ 1 → ⊥ = λ e. omega arith in
+    rw (ne-eqb r 0 some, ne-eqb r 1 other)
 
-judged-nodes : (t : Tree) (m : Mapped (Policy Span)) (lent : Words) → Refusing m → hold filled nodeWords (rows t) lent ≡ nodesHeld (judged t m) lent
+judged-nodes : (t : Tree) (m : Mapped (Policy Span)) (lent : Words) → Refusing m → hold filled nodeWords (rows t) lent ≡ nodesHeld hold (judged t m) lent
 judged-nodes t (good p) lent h = refl
-judged-nodes t (bad r) lent h = rw (left-filled (r .refusal) (h .0))
+judged-nodes t (bad r) lent h = rw (left-filled (r .refusal) (h .0) (h .1))
 
 judged-spans : (t : Tree) (m : Mapped (Policy Span)) (s : Words) → Refusing m → spanWords ≤ length s
-    → settledSpans m (take spanWords s) ++ drop spanWords s ≡ spansHeld (judged t m) s
+    → settledSpans m (take spanWords s) ++ drop spanWords s ≡ spansHeld hold (judged t m) s
 judged-spans t (good p) s h long = hold-front filled spanWords (spanTable p) s long
 judged-spans t (bad r) s h long = rw (left-cleared (r .refusal) (h .0)) (hold-front cleared spanWords [] s long)
 
@@ -113,8 +119,8 @@ judged-answer t q (bad r) = refl
 -- what `read_policy` ensures, where f is what reading the tree found
 record Reads (x : Text) (f : Found) (nodes spans nodes′ spans′ : Words) (r : Told-answer) : Type 0 where
   answer : policyTold r ≡ policyAnswered (mapTree x f)
-  table : nodes′ ≡ nodesHeld (mapTree x f) nodes
-  strings : spans′ ≡ spansHeld (mapTree x f) spans
+  table : nodes′ ≡ nodesHeld hold (mapTree x f) nodes
+  strings : spans′ ≡ spansHeld hold (mapTree x f) spans
 
 module _ (x : Text) (nodes spans : Words) where
   abbrev pub Ensured : (nodes′ spans′ : Words) → Told-answer → Type 0
@@ -132,7 +138,7 @@ module _ (x : Text) (nodes spans : Words) where
 
     module _ (a : Answer) (nodes′ : Words) (e : told a ≡ treeAnswer (length nodes) x) (k : nodes′ ≡ treeTable x nodes) where
       -- a refusal of 1 to 6
-      refused-reads : (f : Found) → Right (length nodes) x f → told a ≡ answered f → nodes′ ≡ nodesAfter f nodes → (a .refusal ≡ 0 → ⊥)
+      refused-reads : (f : Found) → Right (length nodes) x f → told a ≡ answered f → nodes′ ≡ nodesAfter hold f nodes → (a .refusal ≡ 0 → ⊥)
           → (p : Numbers) → given p ≡ noPolicy → (part : Words) → part ≡ clearedFrom (take spanWords spans) (spareFrom (a .refusal) 0)
           → Reads x f nodes spans nodes′ (part ++ drop spanWords spans) (record { answer = a; policy = p })
       refused-reads (tree t q) h e k z p n part c = absurd (z (ap (λ (b : TreeAnswer). b .refusal) e))
@@ -152,7 +158,7 @@ module _ (x : Text) (nodes spans : Words) where
       ensured-refused z p n part c = ensured (refused-reads (findTree stringByte (length nodes) x) (right (length nodes) x) e k z p n part c)
 
       -- a tree
-      found-rooted : (f : Found) → Right (length nodes) x f → told a ≡ answered f → nodes′ ≡ nodesAfter f nodes → a .refusal ≡ 0
+      found-rooted : (f : Found) → Right (length nodes) x f → told a ≡ answered f → nodes′ ≡ nodesAfter hold f nodes → a .refusal ≡ 0
           → (t : Tree) × (q : ℕ) × (f ≡ tree t q) × Rooted nodes′ x t
       found-rooted (tree t q) h e k z = (t, q, refl, rooted stringByte x t q h nodes′ _ k)
       found-rooted (fault r j) h e k z = absurd (omega (arith, h .0, ap (λ (b : TreeAnswer). b .refusal) e))
@@ -165,7 +171,7 @@ module _ (x : Text) (nodes spans : Words) where
         pub root-held : Held nodes′ x 0
         root-held = root-found .3 .root
 
-        settled-reads : (t : Tree) (q : ℕ) → Rooted nodes′ x t → told a ≡ answered (tree t q) → nodes′ ≡ nodesAfter (tree t q) nodes
+        settled-reads : (t : Tree) (q : ℕ) → Rooted nodes′ x t → told a ≡ answered (tree t q) → nodes′ ≡ nodesAfter hold (tree t q) nodes
             → (m : Mapped (Policy Span)) → m ≡ mapping (nodeAt nodes′ x 0) → Refusing m → (part : Words) (r : Told-answer) → Settled m a (take spanWords spans) part r
             → Reads x (tree t q) nodes spans nodes′ (part ++ drop spanWords spans) r
         settled-reads t q root e k m is h part r s =
@@ -174,10 +180,10 @@ module _ (x : Text) (nodes spans : Words) where
             = cc (s .answer, s .counts, ap (λ (b : TreeAnswer). settledAnswer b m) e) in
             record {
               answer = told-answer ∙ judged-answer t q m ∙ ap (λ (n : Mapped (Policy Span)). policyAnswered (judged t n)) same;
-              table = k ∙ judged-nodes t m nodes h ∙ ap (λ (n : Mapped (Policy Span)). nodesHeld (judged t n) nodes) same;
+              table = k ∙ judged-nodes t m nodes h ∙ ap (λ (n : Mapped (Policy Span)). nodesHeld hold (judged t n) nodes) same;
               strings =
                   ap (λ (l : Words). l ++ drop spanWords spans) (s .spans) ∙ judged-spans t m spans h long
-                  ∙ ap (λ (n : Mapped (Policy Span)). spansHeld (judged t n) spans) same;
+                  ∙ ap (λ (n : Mapped (Policy Span)). spansHeld hold (judged t n) spans) same;
             }
 
         pub ensured-settled : (m : Mapped (Policy Span)) → m ≡ mapping (nodeAt nodes′ x 0) → (part : Words) (r : Told-answer)
@@ -186,5 +192,5 @@ module _ (x : Text) (nodes spans : Words) where
         ensured-settled m is part r s =
             let f = root-found in
             ensured (rw (f .2)
-            (settled-reads (f .0) (f .1) (f .3) (e ∙ ap answered (f .2)) (k ∙ ap (λ (g : Found). nodesAfter g nodes) (f .2)) m is
+            (settled-reads (f .0) (f .1) (f .3) (e ∙ ap answered (f .2)) (k ∙ ap (λ (g : Found). nodesAfter hold g nodes) (f .2)) m is
             (mapped-refusing (nodeAt nodes′ x 0) (root-small root-held) m is) part r s))

@@ -8,7 +8,7 @@ use lib.Seq.{sets, sets-eq, length-sets, take-at}
 use borrow.Author.Tests.{ne-eqb, le-leb}
 use mir.Syntax.{w32}
 use mir.Val.{Fits}
-use Rattle.cel_text.specs.Table.{Words}
+use Rattle.cel_text.specs.Table.{Words, word}
 use Rattle.cel_text.specs.Answer.{Answer as TreeAnswer}
 use Rattle.cel_policy.specs.Policy.{Span, Policy, stringCount, allStrings}
 use Rattle.cel_policy.specs.Mapping.{Mapped, good, bad}
@@ -23,7 +23,7 @@ use Rattle.parser.proofs.Rows.{sets-append}
 use Rattle.parser.proofs.Answers.{clearedFrom}
 use Rattle.ast_mapping.specs.declared.mapping.Mapped.{Mapped as Told-policy}
 use Rattle.ast_mapping.specs.declared.mapping.Mapped.the-variants.{Skip, ResponseOnly, Full, Refused}
-use Rattle.ast_mapping.specs.View.{word, spanOf, spansFrom, stringsOf}
+use Rattle.ast_mapping.specs.View.{spanOf, spansFrom, stringsOf}
 use Rattle.ast_mapping.specs.Steps.{mappedAs}
 use Rattle.ast_mapping.specs.Spans.{PutList, strings, numbers, few, Put, spareFrom, Refusing, answerAs, settledAnswer, settledSpans, Settled}
 

@@ -9,11 +9,11 @@ use lib.Dec.{eqb, ltb}
 use borrow.Author.Tests.{le-ltb, ne-eqb, eq-eqb, eqb-false}
 use Rattle.cel_text.specs.Byte.{Text}
 use Rattle.cel_text.specs.Tree.{Kind, array, object, function}
-use Rattle.cel_text.specs.Table.{Words, kindNumber, stringKind}
+use Rattle.cel_text.specs.Table.{Words, kindNumber, stringKind, word}
 use Rattle.cel_policy.specs.Names.{same, spelling}
 use Rattle.cel_policy.specs.Policy.{Span}
 use Rattle.cel_policy.specs.Mapping.{Node, leaf, branch, Refusal, Mapped, good, bad, Typed, unexpectedType, unexpectedName, typed}
-use Rattle.ast_mapping.specs.View.{word, nodeAt, number, children, typedAt, Part, Stands, Held}
+use Rattle.ast_mapping.specs.View.{nodeAt, number, children, typedAt, Part, Stands, Held}
 use Rattle.ast_mapping.specs.Steps.{uses}
 use Rattle.ast_mapping.proofs.View.{no-string}
 

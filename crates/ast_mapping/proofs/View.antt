@@ -12,12 +12,12 @@ use borrow.Author.Tests.{lt-ltb, le-ltb}
 use Rattle.cel_text.specs.Byte.{Text}
 use Rattle.cel_text.specs.Tree.{Kind, array, object, function}
 use Rattle.cel_text.specs.Reading.{maxNodes}
-use Rattle.cel_text.specs.Table.{Words, stringKind, kindNumber}
+use Rattle.cel_text.specs.Table.{Words, stringKind, kindNumber, word}
 use Rattle.cel_policy.specs.Policy.{Span}
 use Rattle.cel_policy.specs.Mapping.{Node, leaf, branch, Nodes, childless, _▹_∶_}
 use Rattle.cel_policy.specs.Laws.Counts.{size, sizes}
 use Rattle.parser.specs.Kinds.{kindOf}
-use Rattle.ast_mapping.specs.View.{word, spanOf, nodeFrom, nodesFrom, nodeAt, number, children, Row, Part, Stands, StandAll, Held}
+use Rattle.ast_mapping.specs.View.{spanOf, nodeFrom, nodesFrom, nodeAt, number, children, Row, Part, Stands, StandAll, Held}
 
 size-positive : (m : Node Span) → 0 < size m
 size-positive (leaf n a) = lit< tt

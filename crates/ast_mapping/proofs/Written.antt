@@ -10,7 +10,7 @@ use lib.Seq.{slice, slice-empty, getD-drop}
 use Rattle.cel_text.specs.Byte.{Text, _⧺_, stringByte}
 use Rattle.cel_text.specs.Tree.{Kind, array, object, function, opener, closer, Key, unkeyed, key, Tree, string, container, Trees, ∅, _▸_∶_, nodes, nodesAll, count}
 use Rattle.cel_text.specs.Grammar.{Named, nameless, with-name, Head, array-head, object-head, function-head, Label, in-array, in-function, in-object, Value, a-string, a-container, Children, no-child, one-more}
-use Rattle.cel_text.specs.Table.{Words, row, rowsOf, rowsAll, rows, keyFrom, keyTo, kindNumber, stringKind}
+use Rattle.cel_text.specs.Table.{Words, row, rowsOf, rowsAll, rows, keyFrom, keyTo, kindNumber, stringKind, word}
 use Rattle.cel_text.specs.Reading.{read, accepted, limits, maxNodes}
 use Rattle.cel_text.specs.Laws.Sound.{sound, within}
 use Rattle.cel_policy.specs.Policy.{Span}
@@ -18,7 +18,7 @@ use Rattle.cel_policy.specs.Mapping.{Node, Nodes, keyBytes, nodeOf, nodesOf}
 use Rattle.cel_policy.specs.Laws.Places.{Here, here-all, here-left, here-right}
 use Rattle.cel_policy.specs.Laws.Counts.{size, sizes, size-nodeOf}
 use Rattle.parser.proofs.Rows.{length-rowsOf, length-rowsAll}
-use Rattle.ast_mapping.specs.View.{word, nodeAt, number, Row, Part, Stands, StandAll, Held}
+use Rattle.ast_mapping.specs.View.{nodeAt, number, Row, Part, Stands, StandAll, Held}
 use Rattle.ast_mapping.proofs.View.{read-back, held}
 
 -- ---- names and keys lie in the text

@@ -4,20 +4,16 @@ use mathlib.Core.Path.{_≡_}
 use Prim.Native.Nat.{ℕ, zero, suc, _+_, _-_, _*_, _≤_, _<_}
 use mathlib.Core.Bool.{cond}
 use mathlib.Core.List.{List, [], _∷_}
-use lib.ListN.{length, getD}
+use lib.ListN.{length}
 use lib.Seq.{slice}
 use lib.Dec.{eqb, ltb}
 use Rattle.cel_text.specs.Byte.{Text}
 use Rattle.cel_text.specs.Reading.{maxNodes}
-use Rattle.cel_text.specs.Table.{Words, stringKind, kindNumber}
+use Rattle.cel_text.specs.Table.{Words, rowWords, word, stringKind, kindNumber}
 use Rattle.cel_policy.specs.Policy.{Span}
 use Rattle.cel_policy.specs.Mapping.{Node, leaf, branch, Nodes, childless, _▹_∶_, Typed}
 use Rattle.parser.specs.Kinds.{kindOf}
 use Rattle.cel_policy.specs.Laws.Counts.{size, sizes}
-
--- word i of the row of node n
-abbrev pub word : Words → (n i : ℕ) → ℕ
-word w n i = getD w (8 * n + i) 0
 
 -- a string's content, as its row has it
 abbrev pub spanOf : Words → ℕ → Span
@@ -63,7 +59,7 @@ children (branch n c name ns) = ns
 pub record Row (w : Words) (n k end : ℕ) : Type 0 where
   pub kind : word w n 0 ≡ k
   pub past : word w n 7 ≡ end
-  pub within : 8 * end ≤ length w
+  pub within : rowWords * end ≤ length w
 
 -- the ends of these bytes of the text
 pub record Part (x : Text) (from to : ℕ) (bytes : Text) : Type 0 where
@@ -93,7 +89,7 @@ pub record Held (w : Words) (x : Text) (n : ℕ) : Type 0 where
 pub record Tabled (w : Words) (n : ℕ) : Type 0 where
   pub begun : n < word w n 7
   pub few : word w n 7 ≤ maxNodes
-  pub ended : 8 * word w n 7 ≤ length w
+  pub ended : rowWords * word w n 7 ≤ length w
 
 -- the node as an object or a function whose kind and name were found as expected
 abbrev pub typedAt : Words → Text → ℕ → Typed Span

@@ -2,7 +2,8 @@
 ghost use mathlib.Core.Path.{_≡_};
 ghost use Prim.Native.Nat.{_≤_, _<_, _+_, _*_};
 ghost use lib.ListN.{length};
-ghost use Rattle.ast_mapping.specs.View.{word, Held};
+ghost use Rattle.cel_text.specs.Table.{word};
+ghost use Rattle.ast_mapping.specs.View.{Held};
 ghost use Rattle.ast_mapping.specs.Steps.{Looked};
 use crate::name;
 use parser::Node;

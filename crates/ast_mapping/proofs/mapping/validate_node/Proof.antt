@@ -6,7 +6,8 @@ use lib.Seq.{slice}
 use Rattle.cel_policy.specs.Names.{same, spelling}
 use Rattle.cel_policy.specs.Mapping.{bad, typed}
 use Rattle.parser.specs.Kinds.{kindOf}
-use Rattle.ast_mapping.specs.View.{word, nodeAt, typedAt}
+use Rattle.cel_text.specs.Table.{word}
+use Rattle.ast_mapping.specs.View.{nodeAt, typedAt}
 use Rattle.parser.proofs.Runs.{part-slice}
 use Rattle.ast_mapping.proofs.View.{room, few}
 use Rattle.ast_mapping.proofs.Steps.{NameAt, wrong-kind, right-kind}

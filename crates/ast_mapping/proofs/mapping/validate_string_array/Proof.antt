@@ -8,7 +8,8 @@ use mir.Facts.{fits-lit}
 use Rattle.ast_mapping.proofs.Counts.{lt-as, end-as, turn-first, turn-past, turn-later, none-between, fits-node}
 use borrow.Author.Count.{falls, below-more}
 use Rattle.cel_policy.specs.Mapping.{bad}
-use Rattle.ast_mapping.specs.View.{word, Held}
+use Rattle.cel_text.specs.Table.{word}
+use Rattle.ast_mapping.specs.View.{Held}
 use Rattle.ast_mapping.proofs.Lists.{tabled-row, tabled-small, wrong-array, all-strings, no-string-at}
 use Rattle.ast_mapping.proofs.mapping.validate_string_array.Statement.{statement}
 use Rattle.ast_mapping.proofs.mapping.validate_string_array.Tie as tie

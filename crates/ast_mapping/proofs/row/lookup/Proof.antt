@@ -1,5 +1,6 @@
 -- `row::lookup` meets its contract: what was found so far is what the definition finds among the children passed. Assumes nothing.
 use lib.Dec.{lit<}
+use Rattle.cel_text.specs.Table.{word}
 use Rattle.ast_mapping.proofs.Counts.{le-as}
 use mathlib.Core.Path.{_≡_, refl, sym, ap, _∙_}
 use Prim.Native.Nat.{ℕ, suc, _-_, _+_, _*_, _≤_, _<_}
@@ -8,7 +9,6 @@ use native.Mathlib.Omega.{arith}
 use mathlib.Core.Logic.{⊎-elim}
 use lib.Seq.{slice}
 use Rattle.cel_policy.specs.Names.{same, spelling}
-use Rattle.ast_mapping.specs.View.{word}
 use Rattle.ast_mapping.specs.Steps.{foundAs, FoundIf}
 use Rattle.parser.proofs.Runs.{part-slice}
 use Rattle.ast_mapping.proofs.View.{Child, past, room, later}

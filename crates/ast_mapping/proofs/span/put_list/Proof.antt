@@ -10,9 +10,9 @@ use Rattle.ast_mapping.proofs.Counts.{lt-as, turn-first, turn-later, fi
 use Rattle.ast_mapping.proofs.Lists.{tabled-row, tabled-small}
 use lib.ListN.{length, set, length-set}
 use lib.Seq.{sets}
-use Rattle.cel_text.specs.Table.{Words}
+use Rattle.cel_text.specs.Table.{Words, word}
 use Rattle.cel_policy.specs.Spans.{spanRows}
-use Rattle.ast_mapping.specs.View.{word, spansFrom}
+use Rattle.ast_mapping.specs.View.{spansFrom}
 use Rattle.ast_mapping.proofs.Spans.{put-one, put-none, place-first, place-next, place-room, place-last}
 use Rattle.ast_mapping.proofs.span.put_list.Statement.{statement}
 use Rattle.ast_mapping.proofs.span.put_list.Tie as tie
