@@ -8,3 +8,4 @@ pub mod Sound
 pub mod Move
 pub mod Place
 pub mod Limit
+pub mod Table

@@ -55,6 +55,34 @@ rows t = rowsOf t unkeyed 0 0
 abbrev pub word : Words → (n i : ℕ) → ℕ
 word ws n i = getD ws (rowWords * n + i) 0
 
+-- a row's eight words by name
+pub record Row : Type 0 where
+  pub kind : ℕ
+  pub from : ℕ
+  pub to : ℕ
+  pub keyfrom : ℕ
+  pub keyto : ℕ
+  pub parent : ℕ
+  pub children : ℕ
+  pub past : ℕ
+
+abbrev pub wordsAt : Words → ℕ → Row
+wordsAt ws n =
+    record {
+      kind = word ws n 0;
+      from = word ws n 1;
+      to = word ws n 2;
+      keyfrom = word ws n 3;
+      keyto = word ws n 4;
+      parent = word ws n 5;
+      children = word ws n 6;
+      past = word ws n 7;
+    }
+
+-- the row of node n, all 0 where the table has no such whole row
+abbrev pub rowAt : Words → ℕ → Row
+rowAt ws n = cond (leb (rowWords * suc n) (length ws)) (wordsAt ws n) (wordsAt [] 0)
+
 -- "a node table of 32-bit words, at least 2,048 of them": a row for each node that may be
 abbrev pub nodeWords : ℕ
 nodeWords = rowWords * maxNodes

@@ -9,6 +9,7 @@ use lib.ListN.{length, set, take, replicate, length-append, length-set, replicat
 use lib.Seq.{sets, set-comm, take-all, take-suc-set}
 use Rattle.cel_text.specs.Tree.{Kind, Key, Tree, string, container, Trees, ∅, _▸_∶_, nodes, nodesAll, count}
 use Rattle.cel_text.specs.Table.{Words, rowsOf, rowsAll, kindNumber, keyFrom, keyTo, stringKind}
+pub use Rattle.cel_text.specs.Laws.Table.{length-rowsOf, length-rowsAll}
 
 pub sets-append : (vs ws l : Words) (i : ℕ) → sets l i (vs ++ ws) ≡ sets (sets l i vs) (i + length vs) ws
 sets-append [] ws l i = rw add-zero
@@ -22,16 +23,6 @@ set-sets (b ∷ vs) l i j a h = set-sets vs (set l i b) (suc i) j a (omega arith
 pub sets-before : (vs ws l : Words) (i j : ℕ) → j + length ws ≤ i → sets (sets l i vs) j ws ≡ sets (sets l j ws) i vs
 sets-before vs [] l i j h = refl
 sets-before vs (a ∷ ws) l i j h = ap (λ (w : Words). sets w (suc j) ws) (set-sets vs l i j a (omega arith)) ∙ sets-before vs ws (set l j a) i (suc j) (omega arith)
-
-mutual
-  pub length-rowsOf : (t : Tree) (k : Key) (u n : ℕ) → length (rowsOf t k u n) ≡ 8 * nodes t
-  length-rowsOf (string o to q) k u n = refl
-  length-rowsOf (container c o from to q ts) k u n = omega (arith, length-rowsAll ts (suc n) (suc n))
-
-  pub length-rowsAll : (ts : Trees) (u n : ℕ) → length (rowsAll ts u n) ≡ 8 * nodesAll ts
-  length-rowsAll ∅ u n = refl
-  length-rowsAll (ts ▸ k ∶ t) u n =
-      length-append (rowsAll ts u n) (rowsOf t k u (n + nodesAll ts)) ∙ omega (arith, length-rowsAll ts u n, length-rowsOf t k u (n + nodesAll ts))
 
 -- one child more
 pub rows-child : (w : Words) (ts : Trees) (k : Key) (t : Tree) (u n : ℕ) (m : ℕ) → m ≡ n + nodesAll ts

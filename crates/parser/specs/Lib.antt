@@ -1,4 +1,5 @@
 pub mod Run
 pub mod Kinds
 pub mod Steps
+pub mod Rows
 pub mod Found

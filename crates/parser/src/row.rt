@@ -4,9 +4,61 @@ ghost use Prim.Native.Nat.{_≤_, _<_, _+_, _*_, _-_, _^_};
 ghost use mathlib.Core.List.{[], _∷_, _++_};
 ghost use lib.ListN.{length, take, replicate};
 ghost use lib.Seq.{sets};
+ghost use Rattle.cel_text.specs.Table.{wordsAt, rowAt};
+ghost use Rattle.parser.specs.Rows.{rowTold};
 use crate::Node;
 use crate::Place;
 use crate::ROW_WORDS;
+
+// A parent's word: its number plus 1, 0 where there is none.
+pub struct Parent(pub u32);
+
+// A node's row, word by word.
+pub struct Row {
+    pub kind: u32,
+    pub from: Place,
+    pub to: Place,
+    pub keyfrom: Place,
+    pub keyto: Place,
+    pub parent: Parent,
+    pub children: u32,
+    pub past: Node,
+}
+
+// The row of this node, all 0 where the table has no such whole row.
+pub fn read_row(table: &[u32], node: Node) -> Row
+    ensures { λ r. ⌜ rowTold r ≡ rowAt (now (table .entry)) (node .0) ⌝ }
+{
+    if table.len() / ROW_WORDS <= node.0 {
+        return no_row();
+    }
+    let at = ROW_WORDS * node.0;
+    Row {
+        kind: table[at],
+        from: Place(table[at + 1] as usize),
+        to: Place(table[at + 2] as usize),
+        keyfrom: Place(table[at + 3] as usize),
+        keyto: Place(table[at + 4] as usize),
+        parent: Parent(table[at + 5]),
+        children: table[at + 6],
+        past: Node(table[at + 7] as usize),
+    }
+}
+
+fn no_row() -> Row
+    ensures { λ r. ⌜ rowTold r ≡ wordsAt [] 0 ⌝ }
+{
+    Row {
+        kind: 0,
+        from: Place(0),
+        to: Place(0),
+        keyfrom: Place(0),
+        keyto: Place(0),
+        parent: Parent(0),
+        children: 0,
+        past: Node(0),
+    }
+}
 
 // The words that are known where a node opens: kind, name or content, key, parent's word.
 pub(crate) fn open_row(
