@@ -43,9 +43,9 @@ abbrev mutual
   nodesFrom (suc f) w x n end before =
       cond (ltb n end) (nodesFrom f w x (word w n 7) end (before ▹ slice (word w n 3) (word w n 4) x ∶ nodeFrom f w x n)) before
 
--- two steps for each of 256 nodes are enough
+-- two steps for each node are enough
 unfoldable pub nodeAt : Words → Text → ℕ → Node Span
-nodeAt w x n = nodeFrom 1024 w x n
+nodeAt w x n = nodeFrom (2 * maxNodes) w x n
 
 abbrev pub number : Node Span → ℕ
 number (leaf n a) = n
@@ -56,7 +56,7 @@ children (leaf n a) = childless
 children (branch n c name ns) = ns
 
 -- the row of node n: its kind, the first node after its subtree, and that the subtree's rows are in the table
-pub record Row (w : Words) (n k end : ℕ) : Type 0 where
+pub record RowIs (w : Words) (n k end : ℕ) : Type 0 where
   pub kind : word w n 0 ≡ k
   pub past : word w n 7 ≡ end
   pub within : rowWords * end ≤ length w
@@ -70,8 +70,8 @@ pub record Part (x : Text) (from to : ℕ) (bytes : Text) : Type 0 where
 -- the table has the rows of a node, and its names and keys lie in the text
 abbrev mutual
   pub Stands : Node Span → Words → Text → Type 0
-  Stands (leaf n a) w x = Row w n stringKind (suc n) × (a ≡ spanOf w n)
-  Stands (branch n c name ns) w x = Row w n (kindNumber c) (suc n + sizes ns) × Part x (word w n 1) (word w n 2) name × StandAll ns w x (suc n)
+  Stands (leaf n a) w x = RowIs w n stringKind (suc n) × (a ≡ spanOf w n)
+  Stands (branch n c name ns) w x = RowIs w n (kindNumber c) (suc n + sizes ns) × Part x (word w n 1) (word w n 2) name × StandAll ns w x (suc n)
 
   -- children of which the first has number n
   pub StandAll : Nodes Span → Words → Text → ℕ → Type 0
