@@ -7,12 +7,13 @@ use mathlib.Core.List.{[], _++_, append-nil, append-assoc}
 use lib.ListN.{length, take, drop, replicate, take-append-drop}
 use lib.Seq.{sets, sets-eq, length-take-le, take-all, take-at, drop-at, drop-append-le}
 use borrow.Author.Tests.{lt-ltb, le-ltb}
-use Rattle.cel_text.specs.Byte.{Text, ascii, lead, stringByte}
+use Rattle.cel_text.specs.Byte.{Text, ascii, lead}
 use Rattle.cel_text.specs.Tree.{Tree, nodes, unkeyed}
 use Rattle.cel_text.specs.Reading.{Fault, syntax, tooDeep, tooMany, root, read, limits, maxDepth}
 use Rattle.cel_text.specs.Table.{Words, rows, Left, cleared, holdOver, nodesLeft, nodeWords}
 use Rattle.cel_text.specs.Laws.Table.{length-rowsOf}
 use Rattle.cel_text.specs.Answer.{Found, tree, fault, found, findTree, nodesAfter, refusedAt, treeAnswer, treeTable, treeOver, faultNumber, maxText}
+use Rattle.parser.specs.Set.{stringSet}
 use Rattle.parser.specs.declared.Step.{Step}
 use Rattle.parser.specs.declared.Step.the-variants.{Next, Refused}
 use Rattle.parser.specs.Run.{endOf}
@@ -21,16 +22,16 @@ use Rattle.parser.specs.Found.{Finds, Small, answerOf, staleFrom}
 
 -- ---- refusals 2 and 3, and the value
 
-pub find-long : (x : Text) → maxText < length x → findTree stringByte nodeWords x ≡ fault 2 maxText
+pub find-long : (x : Text) → maxText < length x → findTree stringSet nodeWords x ≡ fault 2 maxText
 find-long x h = rw (lt-ltb maxText (length x) h)
 
-pub find-other : (x : Text) (p : ℕ) → length x ≤ maxText → p ≡ endOf ascii x 0 → p < length x → findTree stringByte nodeWords x ≡ fault 3 p
+pub find-other : (x : Text) (p : ℕ) → length x ≤ maxText → p ≡ endOf ascii x 0 → p < length x → findTree stringSet nodeWords x ≡ fault 3 p
 find-other x p h e b =
     let here : p ≡ lead ascii x = e ∙ zero-add (lead ascii x) in
     let less : lead ascii x < length x = omega arith in
     rw (le-ltb maxText (length x) h, here, lt-ltb (lead ascii x) (length x) less)
 
-find-read : (x : Text) (p : ℕ) → length x ≤ maxText → p ≡ endOf ascii x 0 → length x ≤ p → findTree stringByte nodeWords x ≡ found (read stringByte limits x)
+find-read : (x : Text) (p : ℕ) → length x ≤ maxText → p ≡ endOf ascii x 0 → length x ≤ p → findTree stringSet nodeWords x ≡ found (read stringSet limits x)
 find-read x p h e b =
     let here : p ≡ lead ascii x = e ∙ zero-add (lead ascii x) in
     let all : length x ≤ lead ascii x = omega arith in
@@ -42,15 +43,12 @@ fault-clears tooDeep = refl
 fault-clears tooMany = refl
 
 pub find-value : (x : Text) (w w′ : Words) (p : ℕ) → length x ≤ maxText → p ≡ endOf ascii x 0 → length x ≤ p → (s : Step) → Valued x w w′ 0 0 maxDepth 0 0 0 s → Finds x w w′ s
-find-value x w w′ p h e b (Next q m d) v =
+find-value x w w′ p h e b (Next r) v =
     record {
       found = v .tree;
       finds = find-read x p h e b ∙ ap found (v .reading root (record { below = refl; sofar = refl }));
-      counts = v .counts ∙ zero-add (nodes (v .tree));
-      deep = v .deep;
       rows-put = v .rows unkeyed refl refl;
-      room = v .room;
-      shallow = v .shallow;
+      sized = v .sized;
     }
 find-value x w w′ p h e b (Refused r q) v =
     record {
@@ -62,10 +60,10 @@ find-value x w w′ p h e b (Refused r q) v =
 -- ---- the answer and the table
 
 pub small : (x : Text) (w w′ : Words) (s : Step) → Finds x w w′ s → Small s
-small x w w′ (Next q m d) f = (f .room, f .shallow)
+small x w w′ (Next r) f = (f .sized .room, f .sized .shallow)
 small x w w′ (Refused r p) f = f .within
 
-find-wide : (x : Text) (n : ℕ) → nodeWords ≤ n → findTree stringByte n x ≡ findTree stringByte nodeWords x
+find-wide : (x : Text) (n : ℕ) → nodeWords ≤ n → findTree stringSet n x ≡ findTree stringSet nodeWords x
 find-wide x n h = rw (le-ltb n nodeWords h)
 
 -- the table w′, cleared from a place on
@@ -95,21 +93,23 @@ put-front n ws w hs hw =
 module _ (x : Text) (w : Words) (h : nodeWords ≤ length w) where
   pub find-answer : (w′ : Words) (s : Step) → Finds x (take nodeWords w) w′ s → answerOf s ≡ treeAnswer (length w) x
   unfolding treeAnswer
-  find-answer w′ (Next q m d) f = rw (find-wide x (length w) h, f .finds, f .counts, f .deep)
+  find-answer w′ (Next r) f =
+      let counts : r .next .0 ≡ nodes (f .found) = f .sized .counts ∙ zero-add (nodes (f .found)) in
+      rw (find-wide x (length w) h, f .finds, counts, f .sized .deep)
   find-answer w′ (Refused r p) f = rw (find-wide x (length w) h, f .finds)
 
-  over-found : (f : Found) → findTree stringByte nodeWords x ≡ f → nodesAfter holdOver f w ≡ treeOver x w
+  over-found : (f : Found) → findTree stringSet nodeWords x ≡ f → nodesAfter holdOver f w ≡ treeOver x w
   unfolding treeOver
   over-found f e = rw (find-wide x (length w) h, e)
 
   over-front : (w′ : Words) (s : Step) → Finds x (take nodeWords w) w′ s → length w′ ≡ nodeWords
       → clearedFrom w′ (staleFrom (nodesLeft (answerOf s .refusal))) ++ drop nodeWords w ≡ treeOver x w
-  over-front w′ (Next q m d) f h′ =
+  over-front w′ (Next r) f h′ =
       let t : Tree = f .found in
-      let fits : length (rows t) ≤ nodeWords = omega (arith, length-rowsOf t unkeyed 0 0, f .counts, f .room) in
+      let fits : length (rows t) ≤ nodeWords = omega (arith, length-rowsOf t unkeyed 0 0, f .sized .counts, f .sized .room) in
       ap (λ (l : Words). l ++ drop nodeWords w) (clear-none w′ nodeWords h′ ∙ f .rows-put)
       ∙ put-front nodeWords (rows t) w fits h
-      ∙ over-found (tree t (q .0)) (f .finds)
+      ∙ over-found (tree t (r .end .0)) (f .finds)
   over-front w′ (Refused r p) f h′ =
       ap (λ (l : Left). clearedFrom w′ (staleFrom l) ++ drop nodeWords w) (f .clears)
       ∙ ap (λ (l : Words). l ++ drop nodeWords w) (clear-all w′ nodeWords h′)

@@ -1,3 +1,4 @@
+pub mod Set
 pub mod Run
 pub mod Kinds
 pub mod Steps

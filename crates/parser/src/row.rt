@@ -1,10 +1,11 @@
 // The rows of the lent table, eight words for each node.
 ghost use mathlib.Core.Path.{_≡_};
-ghost use Prim.Native.Nat.{_≤_, _<_, _+_, _*_, _-_, _^_};
+ghost use Prim.Native.Nat.{suc, _≤_, _<_, _+_, _*_, _-_, _^_};
 ghost use mathlib.Core.List.{[], _∷_, _++_};
 ghost use lib.ListN.{length, take, replicate};
 ghost use lib.Seq.{sets};
-ghost use Rattle.cel_text.specs.Table.{wordsAt, rowAt};
+ghost use Rattle.cel_text.specs.Reading.{maxNodes};
+ghost use Rattle.cel_text.specs.Table.{rowWords, wordsAt, rowAt};
 ghost use Rattle.parser.specs.Rows.{rowTold};
 use crate::Node;
 use crate::Place;
@@ -60,7 +61,7 @@ fn no_row() -> Row
     }
 }
 
-// The words that are known where a node opens: kind, name or content, key, parent's word.
+// The words that are known where a node opens: kind, name or content, key, parent.
 pub(crate) fn open_row(
     table: &mut [u32],
     node: Node,
@@ -69,11 +70,11 @@ pub(crate) fn open_row(
     to: Place,
     keyfrom: Place,
     keyto: Place,
-    parent: u32,
+    parent: Parent,
 )
-    requires { ⌜ 8 * (node .0) + 8 ≤ length (now table) ⌝ }
+    requires { ⌜ rowWords * suc (node .0) ≤ length (now table) ⌝ }
     requires { ⌜ (from .0 < 2 ^ 32) × (to .0 < 2 ^ 32) × (keyfrom .0 < 2 ^ 32) × (keyto .0 < 2 ^ 32) ⌝ }
-    ensures { λ _. ⌜ now (table .exit) ≡ sets (now (table .entry)) (8 * (node .0)) (kind ∷ from .0 ∷ to .0 ∷ keyfrom .0 ∷ keyto .0 ∷ parent ∷ []) ⌝ }
+    ensures { λ _. ⌜ now (table .exit) ≡ sets (now (table .entry)) (rowWords * (node .0)) (kind ∷ from .0 ∷ to .0 ∷ keyfrom .0 ∷ keyto .0 ∷ parent .0 ∷ []) ⌝ }
 {
     let at = ROW_WORDS * node.0;
     table[at] = kind;
@@ -81,18 +82,26 @@ pub(crate) fn open_row(
     table[at + 2] = to.0 as u32;
     table[at + 3] = keyfrom.0 as u32;
     table[at + 4] = keyto.0 as u32;
-    table[at + 5] = parent;
+    table[at + 5] = parent.0;
 }
 
 // The words that are known where it closes: its children, and the first node after its subtree.
 pub(crate) fn close_row(table: &mut [u32], node: Node, children: usize, past: Node)
-    requires { ⌜ 8 * (node .0) + 8 ≤ length (now table) ⌝ }
+    requires { ⌜ rowWords * suc (node .0) ≤ length (now table) ⌝ }
     requires { ⌜ (children < 2 ^ 32) × (past .0 < 2 ^ 32) ⌝ }
-    ensures { λ _. ⌜ now (table .exit) ≡ sets (now (table .entry)) (8 * (node .0) + 6) (children ∷ past .0 ∷ []) ⌝ }
+    ensures { λ _. ⌜ now (table .exit) ≡ sets (now (table .entry)) (rowWords * (node .0) + 6) (children ∷ past .0 ∷ []) ⌝ }
 {
     let at = ROW_WORDS * node.0;
     table[at + 6] = children as u32;
     table[at + 7] = past.0 as u32;
+}
+
+// The word of a parent with this number.
+pub(crate) fn under(node: Node) -> Parent
+    requires { ⌜ node .0 < maxNodes ⌝ }
+    ensures { λ r. ⌜ r .0 ≡ suc (node .0) ⌝ }
+{
+    Parent((node.0 + 1) as u32)
 }
 
 // Sets every word from `from` on to 0.
