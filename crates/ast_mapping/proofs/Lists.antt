@@ -8,12 +8,12 @@ use lib.ListN.{length}
 use lib.Seq.{slice}
 use borrow.Author.Tests.{eqb-false}
 use Rattle.cel_text.specs.Byte.{Text}
-use Rattle.cel_text.specs.Tree.{Kind, array, object, function}
+use Rattle.cel_text.specs.Tree.{array, object, function}
 use Rattle.cel_text.specs.Reading.{maxNodes}
 use Rattle.cel_text.specs.Table.{Words, rowWords, kindNumber, stringKind, word}
 use Rattle.cel_policy.specs.Policy.{Span}
-use Rattle.cel_policy.specs.Mapping.{Node, leaf, branch, Nodes, childless, _▹_∶_, Refusal, Mapped, good, bad, andThen, unexpectedType, element, elements, stringArray}
-use Rattle.cel_policy.specs.Laws.Counts.{size, sizes}
+use Rattle.cel_policy.specs.Mapping.{Node, leaf, branch, Nodes, childless, _▹_∶_, Refusal, good, bad, unexpectedType, element, elements, stringArray}
+use Rattle.cel_policy.specs.Laws.Counts.{sizes}
 use Rattle.ast_mapping.specs.View.{spanOf, spansFrom, stringsOf, nodeAt, number, children, Stands, Held, Tabled}
 use Rattle.ast_mapping.proofs.View.{no-string, Begins, all, less, begins-none, past, within, later, Child, next-child, last-child}
 

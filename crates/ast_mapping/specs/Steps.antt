@@ -10,7 +10,7 @@ use Rattle.cel_text.specs.Tree.{Kind, array, object, function}
 use Rattle.cel_text.specs.Reading.{maxNodes}
 use Rattle.cel_text.specs.Table.{Words, kindNumber}
 use Rattle.cel_policy.specs.Policy.{Span, Policy, responseOnly, full, inclusions, exclusions}
-use Rattle.cel_policy.specs.Mapping.{Refusal, Mapped, good, bad, Typed, Request, Only, first, second, typed, lookup, stringArray, listAt, skipped}
+use Rattle.cel_policy.specs.Mapping.{Refusal, Mapped, good, bad, Request, Only, first, second, typed, lookup, stringArray, listAt, skipped}
 use Rattle.ast_mapping.specs.View.{nodeAt, children, typedAt, stringsOf, Held, Tabled}
 use Rattle.ast_mapping.specs.declared.row.Found.{Found}
 use Rattle.ast_mapping.specs.declared.row.Found.the-variants.{At, Nothing}

@@ -3,7 +3,6 @@ use mathlib.Core.Path.{ap, _∙_}
 use Prim.Native.Nat.{ℕ}
 use borrow.Author.Tests.{ne-eqb, lt-ltb, le-ltb}
 use Rattle.ast_mapping.specs.Steps.{wrongKind}
-use borrow.Author.Needs.{needs}
 use Rattle.ast_mapping.proofs.mapping.refused.Statement.{statement}
 use Rattle.ast_mapping.proofs.mapping.refused.Tie as tie
 

@@ -43,15 +43,21 @@ loop-less c = falls _ _ (c .before .before .before .loop-test .taken)
 
 loop-again : tie.Need-loop-again Inv-loop μ-loop
 loop-again c =
-    let x = c .before .before .before .before .before .before .before .before .args .a .now in
-    let y = c .before .before .before .before .before .before .before .before .args .b .now in
-    let i = c .before .before .before .before .loop .i in
+    let b4 = c .before .before .before .before in
+    let b8 = b4 .before .before .before .before in
+    let x = b8 .args .a .now in
+    let y = b8 .args .b .now in
+    let i = b4 .loop .i in
     let more = c .before .before .before .loop-test .taken in
-    let both = c .before .before .before .before .loop .inv .1 in
-    (add-one-le more, both, c .before .before .before .before .loop .inv .2 ∙ rw (add-one, same-step x y i more (lt-as both more), c .still .ensures) (and-assoc (c .before .before .before .before .loop .so) (eqb (getD x i 0) (getD y i 0)) (same (drop (suc i) x) (drop (suc i) y))))
+    let both = b4 .loop .inv .1 in
+    (add-one-le more, both, b4 .loop .inv .2 ∙ rw (add-one, same-step x y i more (lt-as both more), c .still .ensures)
+    (and-assoc (b4 .loop .so) (eqb (getD x i 0) (getD y i 0)) (same (drop (suc i) x) (drop (suc i) y))))
 
 returns-2 : tie.Need-returns-2 Inv-loop μ-loop
-returns-2 c = sym (c .before .loop .inv .2 ∙ same-end (c .before .before .before .before .before .args .a .now) (c .before .before .before .before .before .args .b .now) (c .before .loop .i) (c .before .loop .so) (c .loop-test .left) (le-as (sym (c .before .loop .inv .1)) refl (c .loop-test .left)))
+returns-2 c =
+    let b5 = c .before .before .before .before .before in
+    sym (c .before .loop .inv .2 ∙ same-end (b5 .args .a .now) (b5 .args .b .now) (c .before .loop .i) (c .before .loop .so) (c .loop-test .left)
+    (le-as (sym (c .before .loop .inv .1)) refl (c .loop-test .left)))
 
 pub equal-spec : {M : Type 1} → statement M
 equal-spec =

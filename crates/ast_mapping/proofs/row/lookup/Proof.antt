@@ -1,5 +1,5 @@
 -- `row::lookup` meets its contract: what was found so far is what the definition finds among the children passed. Assumes nothing.
-use mathlib.Core.Path.{_≡_, refl, sym}
+use mathlib.Core.Path.{_≡_, refl}
 use Prim.Native.Nat.{_-_, _<_}
 use mathlib.Core.Logic.{⊎-elim}
 use lib.Seq.{slice}
@@ -25,15 +25,25 @@ passed : (c : tie.At-loop Inv-loop μ-loop)
     → let s = c .before .before .before .before .before .before in Passed (s .args .table .now) (s .args .text .now) (s .args .object .0) (s .args .name) (c .loop .next .0) (c .loop .found)
 passed c = rw (before-first (c .before .before .before .before .before .before .args .object .0)) at (c .loop .inv)
 
-more : (c : tie.Then1 Inv-loop μ-loop) → let s = c .before .before .before .before .before .before .before .before .before in c .before .before .before .loop .next .0 < word (s .args .table .now) (s .args .object .0) 7
+more : (c : tie.Then1 Inv-loop μ-loop)
+    → let s = c .before .before .before .before .before .before .before .before .before in c .before .before .before .loop .next .0 < word (s .args .table .now) (s .args .object .0) 7
 more c = lt-as (whole (c .before .before .before .before .before .before) .past) (c .if1 .taken)
 
 kid : (c : tie.Then1 Inv-loop μ-loop)
-    → let s = c .before .before .before .before .before .before .before .before .before in Child (s .args .table .now) (s .args .text .now) (s .args .object .0) (s .pre) (passed (c .before .before .before) .before) (c .before .before .before .loop .next .0)
-kid c = let s = c .before .before .before .before .before .before .before .before .before in passing (s .args .table .now) (s .args .text .now) (s .args .object .0) (s .pre) (s .args .name) (passed (c .before .before .before)) (more c)
+    → let s = c .before .before .before .before .before .before .before .before .before in
+    Child (s .args .table .now) (s .args .text .now) (s .args .object .0) (s .pre) (passed (c .before .before .before) .before) (c .before .before .before .loop .next .0)
+kid c =
+    let s = c .before .before .before .before .before .before .before .before .before in
+    passing (s .args .table .now) (s .args .text .now) (s .args .object .0) (s .pre) (s .args .name) (passed (c .before .before .before)) (more c)
 
-entry : (c : tie.After-read-row2 Inv-loop μ-loop) → RowRead (c .before .before .before .before .before .before .before .before .before .before .args .table .now) (c .before .before .before .before .loop .next .0) (c .read-row2 .result)
-entry c = let s = c .before .before .before .before .before .before .before .before .before .before in row-read (c .read-row2 .ensures) (room (s .args .table .now) (s .args .text .now) (c .before .before .before .before .loop .next .0) (kid (c .before) .is))
+entry : (c : tie.After-read-row2 Inv-loop μ-loop)
+    → let l = c .before .before .before .before in
+    let s = l .before .before .before .before .before .before in
+    RowRead (s .args .table .now) (l .loop .next .0) (c .read-row2 .result)
+entry c =
+    let b4 = c .before .before .before .before in
+    let s = b4 .before .before .before .before .before .before in
+    row-read (c .read-row2 .ensures) (room (s .args .table .now) (s .args .text .now) (b4 .loop .next .0) (kid (c .before) .is))
 
 read-row-requires : tie.Need-read-row-requires Inv-loop μ-loop
 read-row-requires c κs = tt
@@ -59,9 +69,11 @@ is-name-at-requires c κs =
 
 loop-less : tie.Need-loop-less Inv-loop μ-loop
 loop-less c =
-    let s = c .before .before .before .before .before .before .before .before .before .before .before .before .before in
-    let next = c .before .before .before .before .before .before .before .loop .next .0 in
-    omega (arith, entry (c .before .before .before) .past, later (s .args .table .now) (s .args .text .now) next (kid (c .before .before .before .before) .is), c .before .before .before .before .if1 .taken)
+    let b4 = c .before .before .before .before in
+    let b7 = b4 .before .before .before in
+    let s = b7 .before .before .before .before .before .before in
+    let next = b7 .loop .next .0 in
+    omega (arith, entry (c .before .before .before) .past, later (s .args .table .now) (s .args .text .now) next (kid b4 .is), b4 .if1 .taken)
 
 loop-again : tie.Need-loop-again Inv-loop μ-loop
 loop-again c =
