@@ -19,13 +19,17 @@ fn put_word(out: &mut [u8], at: usize, line: &[u8], number: u32) -> usize
     put_part(out, at, line, from, to)
 }
 
+// A tab and the name; nothing where there is none.
 fn put_name(out: &mut [u8], at: usize, name: u32) -> usize
     requires { ⌜ at ≤ length (now out) ⌝ }
     ensures { λ r. ⌜ r ≤ length (now (out .exit)) ⌝ }
 {
-    let names =
-        b"|\tdefault_certification|\tValidationArgs|\tno_certification|\tcertification|\tCertification|\tno_request_certification|\trequest_certification|\tRequestCertification|\tcertified_request_headers|\tcertified_query_parameters|\tresponse_certification|\tResponseCertification|\tcertified_response_headers|\tresponse_header_exclusions|\tResponseHeaderList|\theaders";
-    put_word(out, at, names, name)
+    let begin = put(out, at, b"\t");
+    let end = ast_mapping::name::spell(out, begin, name);
+    if end == begin {
+        return at;
+    }
+    end
 }
 
 fn put_kind(out: &mut [u8], at: usize, kind: u32) -> usize
@@ -40,7 +44,9 @@ fn put_error(out: &mut [u8], refusal: u32) -> usize
     ensures { λ r. ⌜ r ≤ length (now (out .exit)) ⌝ }
 {
     let errors =
-        b"||||CelSyntaxException|||UnexpectedNodeType|UnexpectedNodeName|MissingFunctionParameter|MissingObjectProperty|ExtraneousValidationArgsProperty|MissingValidationArgsProperty|ExtraneousRequestCertificationProperty|MissingRequestCertificationProperty|ExtraneousResponseCertificationProperty|MissingResponseCertificationProperty";
+        b"||||CelSyntaxException|||UnexpectedNodeType|UnexpectedNodeName|MissingFunctionParameter|MissingObjectProperty\
+        |ExtraneousValidationArgsProperty|MissingValidationArgsProperty|ExtraneousRequestCertificationProperty\
+        |MissingRequestCertificationProperty|ExtraneousResponseCertificationProperty|MissingResponseCertificationProperty";
     let end = put_word(out, 0, errors, refusal);
     if end == 0 {
         return put_limit(out, refusal);

@@ -7,9 +7,9 @@ use mathlib.Core.Option.{Option, none, some}
 use lib.ListN.{length, drop, replicate}
 use lib.Dec.{leb, ltb}
 use Rattle.cel_text.specs.Byte.{Text, stringByte}
-use Rattle.cel_text.specs.Tree.{Tree, nodes, depth}
-use Rattle.cel_text.specs.Table.{Words, rows, nodeWords, nodesLeft, hold}
-use Rattle.cel_text.specs.Answer.{Answer, Found, tree, fault, findTree, maxText}
+use Rattle.cel_text.specs.Tree.{Tree}
+use Rattle.cel_text.specs.Table.{Words, Left, rows, nodeWords, nodesLeft, hold, holdOver}
+use Rattle.cel_text.specs.Answer.{Answer, about, refusedAt, Found, tree, fault, findTree, maxText}
 use Rattle.cel_policy.specs.Policy.{Span, Policy, Counted, counted, stringCount, noPolicy, content, strings}
 use Rattle.cel_policy.specs.Mapping.{Refusal, Mapped, good, bad, nodeOf, mapping}
 use Rattle.cel_policy.specs.Spans.{spanWords, spanTable, spansLeft, spanAt, spansAt}
@@ -42,36 +42,38 @@ pub record PolicyAnswer : Type 0 where
   pub policy : Counted
 
 abbrev pub policyAnswered : FoundPolicy → PolicyAnswer
-policyAnswered (policy t p) =
-    record { answer = record { refusal = 0; name = 0; kind = 0; place = 0; nodes = nodes t; depth = depth t }; policy = counted p }
-policyAnswered (unmapped t r) =
-    record {
-      answer = record { refusal = r .refusal; name = r .name; kind = r .kind; place = r .node; nodes = nodes t; depth = depth t };
-      policy = noPolicy;
-    }
-policyAnswered (unread r p) =
-    record { answer = record { refusal = r; name = 0; kind = 0; place = p; nodes = 0; depth = 0 }; policy = noPolicy }
+policyAnswered (policy t p) = record { answer = about t 0 0 0 0; policy = counted p }
+policyAnswered (unmapped t r) = record { answer = about t (r .refusal) (r .name) (r .kind) (r .node); policy = noPolicy }
+policyAnswered (unread r p) = record { answer = refusedAt r p; policy = noPolicy }
 
--- what the lent tables hold afterwards
-abbrev pub nodesHeld : FoundPolicy → Words → Words
-nodesHeld (policy t p) lent = hold (nodesLeft 0) nodeWords (rows t) lent
-nodesHeld (unmapped t r) lent = hold (nodesLeft (r .refusal)) nodeWords (rows t) lent
-nodesHeld (unread r p) lent = hold (nodesLeft r) nodeWords [] lent
+-- what the lent tables hold afterwards, where `holding` says how
+module _ (holding : Left → ℕ → Words → Words → Words) where
+  abbrev pub nodesHeld : FoundPolicy → Words → Words
+  nodesHeld (policy t p) lent = holding (nodesLeft 0) nodeWords (rows t) lent
+  nodesHeld (unmapped t r) lent = holding (nodesLeft (r .refusal)) nodeWords (rows t) lent
+  nodesHeld (unread r p) lent = holding (nodesLeft r) nodeWords [] lent
 
-abbrev pub spansHeld : FoundPolicy → Words → Words
-spansHeld (policy t p) lent = hold (spansLeft 0) spanWords (spanTable p) lent
-spansHeld (unmapped t r) lent = hold (spansLeft (r .refusal)) spanWords [] lent
-spansHeld (unread r p) lent = hold (spansLeft r) spanWords [] lent
+  abbrev pub spansHeld : FoundPolicy → Words → Words
+  spansHeld (policy t p) lent = holding (spansLeft 0) spanWords (spanTable p) lent
+  spansHeld (unmapped t r) lent = holding (spansLeft (r .refusal)) spanWords [] lent
+  spansHeld (unread r p) lent = holding (spansLeft r) spanWords [] lent
 
 -- reading a policy: the answer, the node table and the span table afterwards
 unfoldable pub policyAnswer : (w v : ℕ) → Text → PolicyAnswer
 policyAnswer w v x = policyAnswered (findPolicy stringByte w v x)
 
 unfoldable pub policyNodes : Text → (nodes spans : Words) → Words
-policyNodes x nodes spans = nodesHeld (findPolicy stringByte (length nodes) (length spans) x) nodes
+policyNodes x nodes spans = nodesHeld hold (findPolicy stringByte (length nodes) (length spans) x) nodes
 
 unfoldable pub policySpans : Text → (nodes spans : Words) → Words
-policySpans x nodes spans = spansHeld (findPolicy stringByte (length nodes) (length spans) x) spans
+policySpans x nodes spans = spansHeld hold (findPolicy stringByte (length nodes) (length spans) x) spans
+
+-- reading over two tables: the answer is the same, and the words after the rows and after the strings stay as lent
+unfoldable pub policyNodesOver : Text → (nodes spans : Words) → Words
+policyNodesOver x nodes spans = nodesHeld holdOver (findPolicy stringByte (length nodes) (length spans) x) nodes
+
+unfoldable pub policySpansOver : Text → (nodes spans : Words) → Words
+policySpansOver x nodes spans = spansHeld holdOver (findPolicy stringByte (length nodes) (length spans) x) spans
 
 -- ---- print a policy
 
@@ -98,32 +100,47 @@ allOf test (a ∷ more) = cond (test a) (allOf test more) false
 unfoldable pub bytesFit : (ℕ → Bool) → Words → Text → ℕ → Bool
 bytesFit S ws x i = allOf S (content x (spanAt ws i))
 
+-- every byte is a string byte: 22 finds nothing
+abbrev pub anyByte : ℕ → Bool
+anyByte b = true
+
 -- "the first faulty string, counted from 0": of n strings from string i on
 abbrev pub firstFault : (ℕ → Bool) → (n i : ℕ) → Option ℕ
 firstFault fits zero i = none
 firstFault fits (suc n) i = cond (fits i) (firstFault fits n (suc i)) (some i)
+
+-- what judging a policy gives: nothing to find fault with, or a refusal of 20 to 22 and its place
+pub data Judgement : Type 0 where
+  clean : Judgement
+  faulty : (refusal place : ℕ) → Judgement
+
+abbrev pub unlessFaulty : (refusal : ℕ) → Option ℕ → Judgement → Judgement
+unlessFaulty refusal none next = next
+unlessFaulty refusal (some i) next = faulty refusal i
+
+-- "Checks run 20 to 24, each over all strings before the next": 20 to 22
+unfoldable pub judgement : (ℕ → Bool) → Counted → Words → Text → Judgement
+judgement S k ws x =
+    cond (shaped k)
+    (unlessFaulty 21 (firstFault (spanFits ws x) (stringCount k) 0) (unlessFaulty 22 (firstFault (bytesFit S ws x) (stringCount k) 0) clean))
+    (faulty 20 0)
 
 -- what printing gives: the text to be written, or a refusal of 20 to 24 and its place
 pub data Printing : Type 0 where
   written : Text → Printing
   unprinted : (refusal place : ℕ) → Printing
 
-abbrev pub unlessFaulty : (refusal : ℕ) → Option ℕ → Printing → Printing
-unlessFaulty refusal none next = next
-unlessFaulty refusal (some i) next = unprinted refusal i
-
 -- "23 printed text over 8,192 bytes", "24 output shorter than the text to be written"; r is the output's length
 unfoldable pub sized : Text → (r : ℕ) → Printing
 sized t r = cond (ltb maxText (length t)) (unprinted 23 0) (cond (ltb r (length t)) (unprinted 24 0) (written t))
 
--- "Checks run 20 to 24, each over all strings before the next."
+abbrev pub unlessJudged : Judgement → Printing → Printing
+unlessJudged clean next = next
+unlessJudged (faulty r p) next = unprinted r p
+
+-- the judging, then the sizes
 unfoldable pub findPrint : (ℕ → Bool) → Counted → Words → Text → (r : ℕ) → Printing
-findPrint S k ws x r =
-    cond (shaped k)
-    (unlessFaulty 21 (firstFault (spanFits ws x) (stringCount k) 0)
-    (unlessFaulty 22 (firstFault (bytesFit S ws x) (stringCount k) 0)
-    (sized (printed (strings x (placed k ws))) r)))
-    (unprinted 20 0)
+findPrint S k ws x r = unlessJudged (judgement S k ws x) (sized (printed (strings x (placed k ws))) r)
 
 -- "An answer is four numbers"; "Printing gives the printed length instead, 0 when refused."
 pub record PrintAnswer : Type 0 where
@@ -143,17 +160,17 @@ output (written t) lent = t ++ drop (length t) lent
 output (unprinted r p) lent = lent
 
 -- printing a policy: the answer, and the output afterwards
-unfoldable pub printAnswer : Counted → Words → Text → (r : ℕ) → PrintAnswer
-printAnswer k ws x r = printAnswered (findPrint stringByte k ws x r)
+unfoldable pub printAnswer : (ℕ → Bool) → Counted → Words → Text → (r : ℕ) → PrintAnswer
+printAnswer S k ws x r = printAnswered (findPrint S k ws x r)
 
-unfoldable pub printOutput : Counted → Words → Text → Text → Text
-printOutput k ws x out = output (findPrint stringByte k ws x (length out)) out
+unfoldable pub printOutput : (ℕ → Bool) → Counted → Words → Text → Text → Text
+printOutput S k ws x out = output (findPrint S k ws x (length out)) out
 
 -- ---- canonicalise
 
 -- "canonicalise (read, then print)": what was read is printed from the span table that the read left
 abbrev pub reprinted : (ℕ → Bool) → FoundPolicy → Text → (r : ℕ) → Printing
-reprinted S (policy t p) x r = findPrint S (counted p) (spansHeld (policy t p) (replicate spanWords 0)) x r
+reprinted S (policy t p) x r = findPrint S (counted p) (spansHeld hold (policy t p) (replicate spanWords 0)) x r
 reprinted S (unmapped t f) x r = unprinted (f .refusal) 0
 reprinted S (unread f p) x r = unprinted f 0
 

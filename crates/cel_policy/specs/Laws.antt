@@ -17,6 +17,8 @@ pub mod Ascii
 -- what is read is proper, and prints from its own table
 pub mod Readable
 pub mod SpanTable
+-- what judging says of a policy, and where 22 falls away
+pub mod Judging
 -- the entries: their refusals, demand 3, canonicalising, 8,192 bytes
 pub mod Refusals
 pub mod Entries

@@ -10,7 +10,9 @@ use lib.Seq.{slice}
 use Rattle.cel_text.specs.Byte.{Text}
 use Rattle.cel_text.specs.Tree.{Kind, array, object, function, Key, unkeyed, key, Tree, string, container, Trees, ∅, _▸_∶_, nodesAll}
 use Rattle.cel_text.specs.Table.{stringKind, kindNumber}
-use Rattle.cel_policy.specs.Names.{same, spelling, default-certification, ValidationArgs, no-certification, certification, Certification, no-request-certification, request-certification, RequestCertification, certified-request-headers, certified-query-parameters, response-certification, ResponseCertification, certified-response-headers, response-header-exclusions, ResponseHeaderList, headers}
+use Rattle.cel_policy.specs.Names.{same, spelling, default-certification, ValidationArgs, no-certification, certification, Certification, no-request-certification, request-certification}
+use Rattle.cel_policy.specs.Names.{RequestCertification, certified-request-headers, certified-query-parameters, response-certification, ResponseCertification, certified-response-headers}
+use Rattle.cel_policy.specs.Names.{response-header-exclusions, ResponseHeaderList, headers}
 use Rattle.cel_policy.specs.Policy.{Span, Policy, skip, responseOnly, full, noList, inclusions, exclusions}
 
 -- a tree as the mapping sees it: each node with its number; a string known by an A; a container with its kind and the bytes of its name

@@ -3,7 +3,7 @@ use Prim.Native.Nat.{ℕ, zero, suc, _*_}
 use mathlib.Core.Bool.{cond}
 use mathlib.Core.List.{List, [], _∷_}
 use lib.ListN.{getD}
-use lib.Dec.{eqb, ltb}
+use lib.Dec.{eqb}
 use Rattle.cel_text.specs.Table.{Words, Left, untouched, cleared, filled}
 use Rattle.cel_policy.specs.Policy.{Span, Policy, allStrings}
 
@@ -20,9 +20,9 @@ spanRows (s ∷ more) = s .from ∷ s .to ∷ spanRows more
 unfoldable pub spanTable : Policy Span → Words
 spanTable p = spanRows (allStrings p)
 
--- "1 leaves them untouched. 2 to 6 set the counted words to 0. 7 to 16 [...] set the span table to 0"
+-- "1 leaves them untouched. 2 to 6 set the counted words to 0. 7 to 16 [...] set the span table to 0": any other refusal clears
 abbrev pub spansLeft : ℕ → Left
-spansLeft refusal = cond (eqb refusal 1) untouched (cond (ltb 1 refusal) cleared filled)
+spansLeft refusal = cond (eqb refusal 0) filled (cond (eqb refusal 1) untouched cleared)
 
 -- the table read back: string i has the words 2 i and 2 i + 1
 abbrev pub spanAt : Words → ℕ → Span

@@ -1,5 +1,5 @@
 -- The answer of "read a tree" for every text and every table length, in document 01's numbers. S is the set of string bytes. Assumes nothing.
-use Prim.Native.Nat.{ℕ, suc}
+use Prim.Native.Nat.{ℕ}
 use mathlib.Core.Bool.{Bool, cond}
 use mathlib.Core.List.{List, []}
 use lib.ListN.{length}
@@ -7,7 +7,7 @@ use lib.Dec.{ltb}
 use Rattle.cel_text.specs.Byte.{Text, ascii, lead, stringByte}
 use Rattle.cel_text.specs.Tree.{Tree, nodes, depth}
 use Rattle.cel_text.specs.Reading.{Fault, syntax, tooDeep, tooMany, Outcome, accepted, refused, read, limits}
-use Rattle.cel_text.specs.Table.{Words, rows, nodeWords, nodesLeft, hold}
+use Rattle.cel_text.specs.Table.{Words, Left, rows, nodeWords, nodesLeft, hold, holdOver}
 
 -- "Text 8,192 bytes"
 abbrev pub maxText : ℕ
@@ -45,19 +45,30 @@ findTree S w x =
     (cond (ltb (lead ascii x) (length x)) (fault 3 (lead ascii x))
     (found (read S limits x))))
 
--- "0 where unused"; nodes and depth "both 0 for refusals 1 to 6"
-abbrev pub answered : Found → Answer
-answered (tree t q) = record { refusal = 0; name = 0; kind = 0; place = 0; nodes = nodes t; depth = depth t }
-answered (fault r p) = record { refusal = r; name = 0; kind = 0; place = p; nodes = 0; depth = 0 }
+-- an answer about the tree t, with its nodes and its depth
+abbrev pub about : Tree → (refusal name kind place : ℕ) → Answer
+about t refusal name kind place = record { refusal = refusal; name = name; kind = kind; place = place; nodes = nodes t; depth = depth t }
 
--- what the lent node table holds afterwards
-abbrev pub nodesAfter : Found → Words → Words
-nodesAfter (tree t q) lent = hold (nodesLeft 0) nodeWords (rows t) lent
-nodesAfter (fault r p) lent = hold (nodesLeft r) nodeWords [] lent
+-- a refusal without a tree: "0 where unused"; nodes and depth "both 0 for refusals 1 to 6"
+abbrev pub refusedAt : (refusal place : ℕ) → Answer
+refusedAt refusal place = record { refusal = refusal; name = 0; kind = 0; place = place; nodes = 0; depth = 0 }
+
+abbrev pub answered : Found → Answer
+answered (tree t q) = about t 0 0 0 0
+answered (fault r p) = refusedAt r p
+
+-- what the lent node table holds afterwards, where `holding` says how
+abbrev pub nodesAfter : (holding : Left → ℕ → Words → Words → Words) → Found → Words → Words
+nodesAfter holding (tree t q) lent = holding (nodesLeft 0) nodeWords (rows t) lent
+nodesAfter holding (fault r p) lent = holding (nodesLeft r) nodeWords [] lent
 
 -- reading a tree: the answer, and the node table afterwards
 unfoldable pub treeAnswer : (w : ℕ) → Text → Answer
 treeAnswer w x = answered (findTree stringByte w x)
 
 unfoldable pub treeTable : Text → Words → Words
-treeTable x lent = nodesAfter (findTree stringByte (length lent) x) lent
+treeTable x lent = nodesAfter hold (findTree stringByte (length lent) x) lent
+
+-- reading over a table: the answer is the same, and the words after a tree's rows stay as lent
+unfoldable pub treeOver : Text → Words → Words
+treeOver x lent = nodesAfter holdOver (findTree stringByte (length lent) x) lent

@@ -8,3 +8,6 @@ pub mod Sound
 pub mod Move
 pub mod Place
 pub mod Limit
+pub mod Exact
+pub mod Find
+pub mod Table

@@ -1,5 +1,6 @@
 pub mod Byte
 pub mod Tree
+pub mod Abstract
 pub mod Grammar
 pub mod Reading
 pub mod Table

@@ -2,7 +2,7 @@
 -- containers that are open around it. S is the set of string bytes, L the limits. Assumes nothing.
 use Prim.Native.Nat.{ℕ, suc, _+_}
 use mathlib.Core.Bool.{Bool, false, cond}
-use mathlib.Core.List.{List, [], _∷_}
+use mathlib.Core.List.{[], _∷_}
 use lib.Dec.{eqb}
 use Rattle.cel_text.specs.Byte.{Text, blank, identByte, quote, comma, colon}
 use Rattle.cel_text.specs.Tree.{Kind, array, object, function, opener, closer, Key, unkeyed, key, Tree, string, container, Trees, ∅, _▸_∶_, nodesAll}
@@ -130,17 +130,39 @@ pub data Outcome : Type 0 where
   accepted : Tree → ℕ → Outcome
   refused : Fault → ℕ → Outcome
 
+-- where the machine stops: after a whole value; or in a state out of which the next byte, or the text's end, does not lead
+pub data Stop : Type 0 where
+  ended : Tree → ℕ → Stop
+  stopped : State → Fault → ℕ → Stop
+
+abbrev pub outcome : Stop → Outcome
+outcome (ended t q) = accepted t q
+outcome (stopped st f p) = refused f p
+
+-- one of three, by what a step does
+abbrev pub meet : {R : Type 0} → Step → (State → R) → (Tree → R) → (Fault → R) → R
+meet (go st) on full off = on st
+meet (done t) on full off = full t
+meet (refuse f) on full off = off f
+
 -- what follows a step made at place p, where `on` reads on
 abbrev pub follow : Step → ℕ → (State → Outcome) → Outcome
-follow (go st) p on = on st
-follow (done t) p on = accepted t (suc p)
-follow (refuse f) p on = refused f p
+follow u p on = meet u on (λ t. accepted t (suc p)) (λ f. refused f p)
 
 module _ (S : ℕ → Bool) (L : Limits) where
-  -- reading on from a state, at place p; where the text ends no value is whole
+  -- reading on from a state, at place p: `full` is told the tree and the place after it, `off` the state, the fault and the place of a stop.
+  -- Where the text ends no value is whole.
+  abbrev pub reading : {R : Type 0} (full : Tree → ℕ → R) (off : State → Fault → ℕ → R) → State → ℕ → Text → R
+  reading full off st p [] = off st syntax p
+  reading full off st p (b ∷ bs) = meet (step S L st p b) (λ st′. reading full off st′ (suc p) bs) (λ t. full t (suc p)) (λ f. off st f p)
+
+  -- where it stops
+  abbrev pub halt : State → ℕ → Text → Stop
+  halt = reading ended stopped
+
+  -- and what it gives, whatever the state
   abbrev pub run : State → ℕ → Text → Outcome
-  run st p [] = refused syntax p
-  run st p (b ∷ bs) = follow (step S L st p b) p (λ st′. run st′ (suc p) bs)
+  run = reading accepted (λ st. refused)
 
   -- reading a text
   abbrev pub read : Text → Outcome

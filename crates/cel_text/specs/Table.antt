@@ -1,10 +1,11 @@
 -- The node table of document 01's section "Limits and the tables lent": the rows of a tree, and what a lent table holds after a read. Assumes nothing.
 use Prim.Native.Nat.{ℕ, suc, _+_, _-_, _*_}
-use mathlib.Core.Bool.{Bool, cond}
+use mathlib.Core.Bool.{cond}
 use mathlib.Core.List.{List, [], _∷_, _++_}
-use lib.ListN.{length, drop, replicate}
-use lib.Dec.{eqb, leb, ltb}
-use Rattle.cel_text.specs.Tree.{Kind, array, object, function, Key, unkeyed, key, Tree, string, container, Trees, ∅, _▸_∶_, nodes, nodesAll, count}
+use lib.ListN.{length, getD, drop, replicate}
+use lib.Dec.{eqb, leb}
+use Rattle.cel_text.specs.Tree.{Kind, array, object, function, Key, unkeyed, key, Tree, string, container, Trees, ∅, _▸_∶_, nodesAll, count}
+use Rattle.cel_text.specs.Reading.{maxNodes}
 
 abbrev pub Words : Type 0
 Words = List ℕ
@@ -27,7 +28,11 @@ abbrev pub keyTo : Key → ℕ
 keyTo unkeyed = 0
 keyTo (key from to) = to
 
--- "eight words each": kind; start and end of name or string content; of the key; "parent's number plus 1; root 0"; "direct children"; "number of the first node after its subtree"
+-- "eight words each"
+abbrev pub rowWords : ℕ
+rowWords = 8
+
+-- kind; start and end of name or string content; of the key; "parent's number plus 1; root 0"; "direct children"; "number of the first node after its subtree"
 abbrev pub row : (kind from to : ℕ) → Key → (parent children past : ℕ) → Words
 row kind from to k parent children past = kind ∷ from ∷ to ∷ keyFrom k ∷ keyTo k ∷ parent ∷ children ∷ past ∷ []
 
@@ -46,20 +51,58 @@ abbrev mutual
 abbrev pub rows : Tree → Words
 rows t = rowsOf t unkeyed 0 0
 
--- "a node table of 32-bit words, at least 2,048 of them"
+-- word i of the row of node n, read back
+abbrev pub word : Words → (n i : ℕ) → ℕ
+word ws n i = getD ws (rowWords * n + i) 0
+
+-- a row's eight words by name
+pub record Row : Type 0 where
+  pub kind : ℕ
+  pub from : ℕ
+  pub to : ℕ
+  pub keyfrom : ℕ
+  pub keyto : ℕ
+  pub parent : ℕ
+  pub children : ℕ
+  pub past : ℕ
+
+abbrev pub wordsAt : Words → ℕ → Row
+wordsAt ws n =
+    record {
+      kind = word ws n 0;
+      from = word ws n 1;
+      to = word ws n 2;
+      keyfrom = word ws n 3;
+      keyto = word ws n 4;
+      parent = word ws n 5;
+      children = word ws n 6;
+      past = word ws n 7;
+    }
+
+-- the row of node n, all 0 where the table has no such whole row
+abbrev pub rowAt : Words → ℕ → Row
+rowAt ws n = cond (leb (rowWords * suc n) (length ws)) (wordsAt ws n) (wordsAt [] 0)
+
+-- "a node table of 32-bit words, at least 2,048 of them": a row for each node that may be
 abbrev pub nodeWords : ℕ
-nodeWords = 2048
+nodeWords = rowWords * maxNodes
 
 -- what a read leaves of a lent table
 pub data Left : Type 0 where
   untouched cleared filled : Left
 
--- "Tables: 1 leaves them untouched. 2 to 6 set the counted words to 0. 7 to 16 keep the node table as for an accepted tree"
+-- "Tables: 1 leaves them untouched. 2 to 6 set the counted words to 0. 7 to 16 keep the node table as for an accepted tree": any other refusal clears
 abbrev pub nodesLeft : ℕ → Left
-nodesLeft refusal = cond (eqb refusal 1) untouched (cond (ltb 1 refusal) (cond (leb refusal 6) cleared filled) filled)
+nodesLeft refusal = cond (eqb refusal 0) filled (cond (eqb refusal 1) untouched (cond (leb 7 refusal) (cond (leb refusal 16) filled cleared) cleared))
 
 -- a lent table of which n words count, filled with ws: "Spare words are 0." "Words past those counts are never touched."
 abbrev pub hold : Left → ℕ → Words → Words → Words
 hold untouched n ws lent = lent
 hold cleared n ws lent = replicate n 0 ++ drop n lent
 hold filled n ws lent = ws ++ (replicate (n - length ws) 0 ++ drop n lent)
+
+-- the same where the spare words stay as lent
+abbrev pub holdOver : Left → ℕ → Words → Words → Words
+holdOver untouched n ws lent = lent
+holdOver cleared n ws lent = replicate n 0 ++ drop n lent
+holdOver filled n ws lent = ws ++ drop (length ws) lent

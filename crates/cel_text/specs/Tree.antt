@@ -1,7 +1,7 @@
 -- Trees with places, and their sizes as document 01 counts them. A place is the number of bytes before it. Assumes nothing.
 use mathlib.Core.Path.{_≡_}
-use Prim.Native.Nat.{ℕ, suc, _+_, _-_, max}
-use mathlib.Core.Option.{Option, some}
+use Prim.Native.Nat.{ℕ, suc, _+_, max}
+use mathlib.Core.Option.{some}
 use mathlib.Core.List.{List, [], _∷_, _++_}
 use lib.ListN.{getElem?}
 
@@ -62,11 +62,6 @@ abbrev mutual
 abbrev pub count : Trees → ℕ
 count ∅ = 0
 count (ts ▸ k ∶ t) = suc (count ts)
-
--- "Blanks before the closing quote are dropped": how many
-abbrev pub dropped : Tree → ℕ
-dropped (string o to q) = q - suc to
-dropped (container c o from to q ts) = 0
 
 -- where a node opens and, of a container, at which depth; 0 for a string
 pub record Opening : Type 0 where

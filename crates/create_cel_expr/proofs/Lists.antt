@@ -1,20 +1,22 @@
--- A list's text as the printer writes it: the first string after a quote, the others each after the one before it, a quote. Assumes nothing.
-use mathlib.Core.Path.{_≡_, refl, sym, ap, subst, _∙_}
-use Prim.Native.Nat.{ℕ, zero, suc, _+_, _-_, _≤_, _<_}
-use mathlib.Core.List.{List, [], _∷_, _++_, append-assoc, append-nil}
-use lib.ListN.{length}
+-- The strings of a list one after the other, as they are written and as their lengths are added up. Assumes nothing.
+use mathlib.Core.Path.{_≡_, sym, ap, subst, _∙_}
+use Prim.Native.Nat.{ℕ, suc, _+_, _*_, _-_, _≤_, _<_, min}
+use native.Mathlib.Nat.{zero-add}
 use native.Mathlib.Omega.{arith}
-use borrow.Author.Tests.{eq-eqb, ne-eqb}
+use mathlib.Core.List.{List, [], _∷_, _++_, append-assoc, append-nil}
+use lib.ListN.{length, length-map}
 use Rattle.cel_text.specs.Byte.{Text, bytes}
 use Rattle.cel_text.specs.Table.{Words}
-use Rattle.cel_policy.specs.Policy.{Policy, Counted, stringCount, content}
+use Rattle.cel_policy.specs.Policy.{Counted, stringCount, content}
 use Rattle.cel_policy.specs.Spans.{spanAt}
-use Rattle.cel_policy.specs.Printed.{joined, listText, listKey, printed, skipText, responseOnlyText, fullText}
-use Rattle.create_cel_expr.specs.Over.{over, fits, Wrote}
-use Rattle.create_cel_expr.specs.Given.{listed, Inside, AllInside}
-use Rattle.create_cel_expr.proofs.Widths.{part}
-use Rattle.create_cel_expr.proofs.Pieces.{Remains, wrote-then, room-then, remains-all, remains-fits, remains-room, remains-next, remains-last}
+use Rattle.cel_policy.specs.Printed.{joined, listText, total, listLength}
+use Rattle.cel_policy.specs.Laws.SpanTable.{length-spansAt}
+use Rattle.cel_policy.specs.Laws.Judging.{SpanInside, SpansInside}
+use Rattle.pieces.specs.Pieces.{Wrote}
+use Rattle.pieces.specs.Laws.{wrote-none, wrote-then}
+use Rattle.create_cel_expr.specs.Given.{stringsAt, tooLong}
 
+-- strings after another one
 abbrev pub tails : List Text → Text
 tails [] = []
 tails (s ∷ more) = bytes "\",\"" ++ s ++ tails more
@@ -24,102 +26,75 @@ joined-tails s [] = sym (append-nil s)
 joined-tails s (t ∷ more) = ap (λ (r : Text). s ++ (bytes "\",\"" ++ r)) (joined-tails t more)
 
 module _ (x : Text) (ws : Words) (begin count : ℕ) where
-  -- what is left of a list's text once i strings are written
-  abbrev pub restOf : ℕ → Text
-  restOf i = tails (listed x ws (count - i) (begin + i)) ++ bytes "\""
+  -- the strings that are left once i of them are passed
+  abbrev pub leftOf : ℕ → List Text
+  leftOf i = stringsAt x ws (count - i) (begin + i)
 
-  pub list-none : count ≡ 0 → listText (listed x ws count begin) ≡ []
-  list-none e = rw e
-
-  pub list-first : (count ≡ 0 → ⊥) → listText (listed x ws count begin) ≡ bytes "\"" ++ content x (spanAt ws begin) ++ restOf 1
-  list-first n =
-      let s : Text = content x (spanAt ws begin) in
-      let m : count ≡ suc (count - 1) = omega (arith, n) in
-      let b : suc begin ≡ begin + 1 = omega arith in
-      ap (λ (k : ℕ). listText (listed x ws k begin)) m
-      ∙ ap (λ (r : Text). bytes "\"" ++ (r ++ bytes "\"")) (joined-tails s (listed x ws (count - 1) (suc begin)))
-      ∙ ap (λ (k : ℕ). bytes "\"" ++ (s ++ tails (listed x ws (count - 1) k) ++ bytes "\"")) b
-      ∙ simp append-assoc
-
-  listed-next : (i : ℕ) → i < count → listed x ws (count - i) (begin + i) ≡ content x (spanAt ws (begin + i)) ∷ listed x ws (count - (i + 1)) (begin + (i + 1))
-  listed-next i h =
+  left-next : (i : ℕ) → i < count → leftOf i ≡ content x (spanAt ws (begin + i)) ∷ leftOf (i + 1)
+  left-next i h =
       let m : count - i ≡ suc (count - (i + 1)) = omega arith in
       let n : suc (begin + i) ≡ begin + (i + 1) = omega arith in
-      rw m (ap (λ (k : ℕ). content x (spanAt ws (begin + i)) ∷ listed x ws (count - (i + 1)) k) n)
+      rw m (ap (λ (k : ℕ). content x (spanAt ws (begin + i)) ∷ stringsAt x ws (count - (i + 1)) k) n)
 
-  pub rest-next : (i : ℕ) → i < count → restOf i ≡ bytes "\",\"" ++ content x (spanAt ws (begin + i)) ++ restOf (i + 1)
-  rest-next i h = rw (listed-next i h) (simp append-assoc)
+  left-none : (i : ℕ) → count ≤ i → leftOf i ≡ []
+  left-none i h = let m : count - i ≡ 0 = omega arith in rw m
 
-  pub rest-last : (i : ℕ) → count ≤ i → restOf i ≡ bytes "\""
-  rest-last i h = let m : count - i ≡ 0 = omega arith in rw m
+  left-first : (count ≡ 0 → ⊥) → stringsAt x ws count begin ≡ content x (spanAt ws begin) ∷ leftOf 1
+  left-first n =
+      let m : count ≡ suc (count - 1) = omega (arith, n) in
+      let b : suc begin ≡ begin + 1 = omega arith in
+      ap (λ (k : ℕ). stringsAt x ws k begin) m ∙ ap (λ (k : ℕ). content x (spanAt ws begin) ∷ stringsAt x ws (count - 1) k) b
 
-  -- there is room for the first string, and after it for the rest
-  first-all : (out : Text) (at : ℕ) → (count ≡ 0 → ⊥) → fits out at (listText (listed x ws count begin)) → fits out at (bytes "\"" ++ content x (spanAt ws begin) ++ restOf 1)
-  first-all out at n h = subst (fits out at) (list-first n) h
+  -- ---- written
 
-  pub first-room : (out : Text) (at : ℕ) → (count ≡ 0 → ⊥) → fits out at (listText (listed x ws count begin)) → fits out at (bytes "\"" ++ content x (spanAt ws begin))
-  first-room out at n h = remains-room (bytes "\"" ++ content x (spanAt ws begin)) (restOf 1) (remains-all out at (bytes "\"" ++ content x (spanAt ws begin) ++ restOf 1) (first-all out at n h))
+  -- what is left of the list's text
+  abbrev pub restOf : ℕ → Text
+  restOf i = tails (leftOf i) ++ bytes "\""
 
-  pub first-then :
-      {out out′ : Text} {at past : ℕ} → (count ≡ 0 → ⊥) → fits out at (listText (listed x ws count begin)) → Wrote out out′ at past (bytes "\"" ++ content x (spanAt ws begin))
-      → Remains out′ past (restOf 1) (over out′ past (restOf 1)) (past + length (restOf 1))
-  first-then {out = out} {out′ = out′} {at = at} {past = past} n h w = remains-all out′ past (restOf 1) (room-then w (restOf 1) (first-all out at n h))
+  pub wrote-empty : (out : Text) (at : ℕ) → count ≡ 0 → Wrote out out at at (listText (stringsAt x ws count begin))
+  wrote-empty out at e = rw e (wrote-none out at)
 
-  -- the next string
-  next-all :
-      {out final : Text} {past end : ℕ} (i : ℕ) → i < count → Remains out past (restOf i) final end
-      → Remains out past (bytes "\",\"" ++ content x (spanAt ws (begin + i)) ++ restOf (i + 1)) final end
-  next-all {out = out} {final = final} {past = past} {end = end} i h r = subst (λ (t : Text). Remains out past t final end) (rest-next i h) r
+  -- whatever writes the rest from here on has written all that follows the first string
+  abbrev pub Going : (out₀ : Text) (past₀ : ℕ) (out : Text) (past i : ℕ) → Type 0
+  Going out₀ past₀ out past i = (out′ : Text) (past′ : ℕ) → Wrote out out′ past past′ (restOf i) → Wrote out₀ out′ past₀ past′ (restOf 1)
 
-  pub next-room : {out final : Text} {past end : ℕ} (i : ℕ) → i < count → Remains out past (restOf i) final end → fits out past (bytes "\",\"" ++ content x (spanAt ws (begin + i)))
-  next-room i h r = remains-room (bytes "\",\"" ++ content x (spanAt ws (begin + i))) (restOf (i + 1)) (next-all i h r)
+  pub going-next :
+      {out₀ out out″ : Text} {past₀ past past″ i : ℕ} → i < count → Going out₀ past₀ out past i
+      → Wrote out out″ past past″ (bytes "\",\"" ++ content x (spanAt ws (begin + i))) → Going out₀ past₀ out″ past″ (i + 1)
+  going-next {out = out} {past = past} {i = i} h g w out′ past′ v =
+      let next : restOf i ≡ (bytes "\",\"" ++ content x (spanAt ws (begin + i))) ++ restOf (i + 1) = rw (left-next i h) (simp append-assoc) in
+      g out′ past′ (subst (Wrote out out′ past past′) (sym next) (wrote-then w v))
 
-  pub next-then :
-      {out out′ final : Text} {past past′ end : ℕ} (i : ℕ) → i < count → Remains out past (restOf i) final end → Wrote out out′ past past′ (bytes "\",\"" ++ content x (spanAt ws (begin + i)))
-      → Remains out′ past′ (restOf (i + 1)) final end
-  next-then i h r w = remains-next (restOf (i + 1)) (next-all i h r) w
+  pub going-last :
+      {out₀ out₁ out out′ : Text} {at past₁ past past′ i : ℕ} → (count ≡ 0 → ⊥) → Wrote out₀ out₁ at past₁ (bytes "\"" ++ content x (spanAt ws begin))
+      → count ≤ i → Going out₁ past₁ out past i → Wrote out out′ past past′ (bytes "\"") → Wrote out₀ out′ at past′ (listText (stringsAt x ws count begin))
+  going-last {out₀ = out₀} {out = out} {out′ = out′} {at = at} {past = past} {past′ = past′} {i = i} n w h g v =
+      let s : Text = content x (spanAt ws begin) in
+      let all : listText (stringsAt x ws count begin) ≡ (bytes "\"" ++ s) ++ restOf 1 =
+      ap listText (left-first n) ∙ ap (λ (r : Text). bytes "\"" ++ (r ++ bytes "\"")) (joined-tails s (leftOf 1)) ∙ simp append-assoc
+      in
+      let rest : restOf i ≡ bytes "\"" = rw (left-none i h) in
+      subst (Wrote out₀ out′ at past′) (sym all) (wrote-then w (g out′ past′ (subst (Wrote out out′ past past′) (sym rest) v)))
 
-  -- the last quote
-  last-all : {out final : Text} {past end : ℕ} (i : ℕ) → count ≤ i → Remains out past (restOf i) final end → Remains out past (bytes "\"") final end
-  last-all {out = out} {final = final} {past = past} {end = end} i h r = subst (λ (t : Text). Remains out past t final end) (rest-last i h) r
+  -- ---- added up
 
-  pub last-room : {out final : Text} {past end : ℕ} (i : ℕ) → count ≤ i → Remains out past (restOf i) final end → fits out past (bytes "\"")
-  last-room i h r = remains-fits (last-all i h r)
+  -- what the sum so far and the strings that are left come to, after a turn and at the end
+  pub total-turn :
+      (i sofar long : ℕ) {next all : ℕ} → i < count → long ≡ length (content x (spanAt ws (begin + i))) → next ≡ min tooLong (sofar + long)
+      → min tooLong (sofar + total (leftOf i)) ≡ all → (next ≤ tooLong) × (min tooLong (next + total (leftOf (i + 1))) ≡ all)
+  total-turn i sofar long h el en e = (omega arith, omega (arith, ap total (left-next i h)))
 
-  pub last-then :
-      {out out₀ out₁ out′ : Text} {at past₁ past past′ i : ℕ} → (count ≡ 0 → ⊥) → fits out₀ at (listText (listed x ws count begin)) → Wrote out₀ out₁ at past₁ (bytes "\"" ++ content x (spanAt ws begin))
-      → count ≤ i → Remains out past (restOf i) (over out₁ past₁ (restOf 1)) (past₁ + length (restOf 1)) → Wrote out out′ past past′ (bytes "\"")
-      → Wrote out₀ out′ at past′ (listText (listed x ws count begin))
-  last-then {out₀ = out₀} {out′ = out′} {at = at} {past′ = past′} {i = i} n h w le r v =
-      subst (Wrote out₀ out′ at past′) (sym (list-first n)) (wrote-then w (remains-last (last-all i le r) v) (first-all out₀ at n h))
+  pub total-end : {i all : ℕ} (sofar : ℕ) → count ≤ i → sofar ≤ tooLong → min tooLong (sofar + total (leftOf i)) ≡ all → sofar ≡ all
+  total-end {i = i} sofar h l e = omega (arith, ap total (left-none i h))
 
--- the strings of each of the three lists
-module _ {ws : Words} {x : Text} (k : Counted) (all : AllInside ws x (stringCount k) 0) where
-  pub inside-request : AllInside ws x (k .requestHeaders) 0
-  inside-request = part (Inside ws x) all (k .requestHeaders) 0 (omega arith)
+  pub list-zero : count ≡ 0 → listLength (stringsAt x ws count begin) ≡ 0
+  list-zero e = rw e
 
-  pub inside-query : AllInside ws x (k .queryParameters) (k .requestHeaders)
-  inside-query = part (Inside ws x) all (k .queryParameters) (k .requestHeaders) (omega arith)
+  pub list-some : (count ≡ 0 → ⊥) → listLength (stringsAt x ws count begin) ≡ total (stringsAt x ws count begin) + (3 * count - 1)
+  list-some n =
+      let long : length (leftOf 1) ≡ count - 1 = simp (length-map, length-spansAt) in
+      ap listLength (left-first n) ∙ (rw (left-first n) (omega (arith, long, n)))
 
-  pub inside-response : AllInside ws x (k .responseHeaders) (k .requestHeaders + k .queryParameters)
-  inside-response = part (Inside ws x) all (k .responseHeaders) (k .requestHeaders + k .queryParameters) (omega arith)
-
--- the two keys of the response list
-pub key-exclusions : (kind : ℕ) → kind ≡ 2 → listKey kind ≡ bytes "response_header_exclusions"
-key-exclusions kind e = rw (eq-eqb kind 2 e)
-
-pub key-inclusions : (kind : ℕ) → (kind ≡ 2 → ⊥) → listKey kind ≡ bytes "certified_response_headers"
-key-inclusions kind n = rw (ne-eqb kind 2 n)
-
--- the text that each form has
-pub printed-skip : (p : Policy Text) → p .form ≡ 1 → printed p ≡ skipText
-unfolding printed
-printed-skip p e = rw (eq-eqb (p .form) 1 e)
-
-pub printed-response-only : (p : Policy Text) → p .form ≡ 2 → printed p ≡ responseOnlyText p
-unfolding printed
-printed-response-only p e = rw (ne-eqb (p .form) 1 (λ f. omega arith), eq-eqb (p .form) 2 e)
-
-pub printed-full : (p : Policy Text) → (p .form ≡ 1 → ⊥) → (p .form ≡ 2 → ⊥) → printed p ≡ fullText p
-unfolding printed
-printed-full p n m = rw (ne-eqb (p .form) 1 n, ne-eqb (p .form) 2 m)
+-- what lies inside where all do: any strings of the policy that follow one another
+pub inside-part : {ws : Words} {x : Text} (k : Counted) → SpansInside ws x (stringCount k) 0 → (b n : ℕ) → b + n ≤ stringCount k → SpansInside ws x n b
+inside-part {ws = ws} {x = x} k all b n le i lt = subst (SpanInside ws x) (zero-add (b + i)) (all (b + i) (omega arith))

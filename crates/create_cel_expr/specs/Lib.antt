@@ -1,4 +1,2 @@
-pub mod Over
 pub mod Given
-pub mod Measure
 pub mod Judged

@@ -1,18 +1,21 @@
-// Printing a policy: the port of create_cel_expr.rs. The policy is numbers from anyone, and so are the span table and the text;
-// `print_policy` refuses what is not printable and leaves the output alone then. Its contract cites the definitions of `cel_policy`.
+// Printing a policy: the port of create_cel_expr.rs. The policy is numbers from anyone, and so are the span table and the text; what is not
+// printable is refused, and the output left alone then. The contracts cite the definitions of `cel_policy` and ask nothing of the caller.
 mod judge;
 mod measure;
 mod span;
 mod write;
 
 use cel_policy::Policy;
-use judge::Verdict;
+use parser::MAX_TEXT;
 ghost use mathlib.Core.Path.{_≡_};
+ghost use Prim.Native.Nat.{_≤_};
 ghost use lib.ListN.{length};
 ghost use Rattle.cel_policy.specs.Policy.{numbers};
-ghost use Rattle.cel_policy.specs.Answers.{printAnswer, printOutput};
-ghost use Rattle.create_cel_expr.specs.Given.{told};
-ghost use Rattle.create_cel_expr.specs.Judged.{Faultless, Judges};
+ghost use Rattle.cel_policy.specs.Printed.{maxResponseOnly};
+ghost use Rattle.cel_policy.specs.Answers.{anyByte, judgement, unprinted, printAnswered, output, printAnswer, printOutput};
+ghost use Rattle.create_cel_expr.specs.Given.{printTold};
+ghost use Rattle.parser.specs.Set.{stringSet};
+ghost use Rattle.create_cel_expr.specs.Judged.{judgedAs, Judges, printing};
 
 // Document 01's answer of printing.
 pub struct Printed {
@@ -23,7 +26,11 @@ pub struct Printed {
     pub length: u32,
 }
 
-pub const MAX_TEXT: usize = 8192;
+// What judging a policy finds: nothing, or the refusal's number and the string that it names.
+pub enum Judged {
+    Clean,
+    Faulty(u32, usize),
+}
 
 // Refusals of printing.
 pub const WRONG_SHAPE: u32 = 20;
@@ -36,53 +43,72 @@ pub const PRINTED_TOO_LONG: u32 = 23;
 
 pub const OUTPUT_TOO_SHORT: u32 = 24;
 
+// Judges a policy given by anyone: its shape, then every span, then every string's bytes.
+pub fn judge_policy(policy: Policy, text: &[u8], spans: &[u32]) -> Judged
+    ensures { λ r. ⌜ judgedAs r ≡ judgement stringSet (numbers policy) (now (spans .entry)) (now (text .entry)) ⌝ }
+{
+    judge::over_set(policy, text, spans)
+}
+
 // Writes the policy's text to the front of `out`, or refuses with 20 to 24 and leaves `out` as it is.
 pub fn print_policy(policy: Policy, text: &[u8], spans: &[u32], out: &mut [u8]) -> Printed
-    ensures answer { λ r. ⌜ told r ≡ printAnswer (numbers policy) (now (spans .entry)) (now (text .entry)) (length (now (out .entry))) ⌝ }
-    ensures output { λ r. ⌜ now (out .exit) ≡ printOutput (numbers policy) (now (spans .entry)) (now (text .entry)) (now (out .entry)) ⌝ }
+    ensures answer { λ r. ⌜ printTold r ≡ printAnswer stringSet (numbers policy) (now (spans .entry)) (now (text .entry)) (length (now (out .entry))) ⌝ }
+    ensures output { λ r. ⌜ now (out .exit) ≡ printOutput stringSet (numbers policy) (now (spans .entry)) (now (text .entry)) (now (out .entry)) ⌝ }
 {
-    let verdict = judge::judge(policy, text, spans, out.len());
-    carry_out(verdict, policy, text, spans, out)
+    let judged = judge_policy(policy, text, spans);
+    print_judged(judged, policy, text, spans, out)
 }
 
-// The same for a policy in which 20, 21 and 22 find nothing, such as one that was read: what is known of it is not judged again.
-pub fn print_known(policy: Policy, text: &[u8], spans: &[u32], out: &mut [u8]) -> Printed
-    requires { ⌜ Faultless (numbers policy) (now spans) (now text) ⌝ }
-    ensures answer { λ r. ⌜ told r ≡ printAnswer (numbers policy) (now (spans .entry)) (now (text .entry)) (length (now (out .entry))) ⌝ }
-    ensures output { λ r. ⌜ now (out .exit) ≡ printOutput (numbers policy) (now (spans .entry)) (now (text .entry)) (now (out .entry)) ⌝ }
+// The same where any byte may stand in a string, as for strings that were read: 22 falls away.
+pub fn print_any(policy: Policy, text: &[u8], spans: &[u32], out: &mut [u8]) -> Printed
+    ensures answer { λ r. ⌜ printTold r ≡ printAnswer anyByte (numbers policy) (now (spans .entry)) (now (text .entry)) (length (now (out .entry))) ⌝ }
+    ensures output { λ r. ⌜ now (out .exit) ≡ printOutput anyByte (numbers policy) (now (spans .entry)) (now (text .entry)) (now (out .entry)) ⌝ }
 {
-    let verdict = judge::fit(policy, text, spans, out.len());
-    carry_out(verdict, policy, text, spans, out)
+    let judged = judge::over_any(policy, text, spans);
+    print_judged(judged, policy, text, spans, out)
 }
 
-fn carry_out(
-    verdict: Verdict,
+// What was judged over some set of string bytes: refused for its fault, or for its size with 23 or 24, or written.
+fn print_judged(
+    judged: Judged,
     policy: Policy,
     text: &[u8],
     spans: &[u32],
     out: &mut [u8],
 ) -> Printed
-    requires { ⌜ Judges (numbers policy) (now spans) (now text) (length (now out)) verdict ⌝ }
-    ensures answer { λ r. ⌜ told r ≡ printAnswer (numbers policy) (now (spans .entry)) (now (text .entry)) (length (now (out .entry))) ⌝ }
-    ensures output { λ r. ⌜ now (out .exit) ≡ printOutput (numbers policy) (now (spans .entry)) (now (text .entry)) (now (out .entry)) ⌝ }
+    requires { ⌜ Judges (numbers policy) (now spans) (now text) judged ⌝ }
+    ensures answer { λ r. ⌜ printTold r ≡ printAnswered (printing judged (numbers policy) (now (spans .entry)) (now (text .entry)) (length (now (out .entry)))) ⌝ }
+    ensures output { λ r. ⌜ now (out .exit) ≡ output (printing judged (numbers policy) (now (spans .entry)) (now (text .entry)) (length (now (out .entry)))) (now (out .entry)) ⌝ }
 {
-    match verdict {
-        Verdict::Refused(refusal, index) => Printed {
-            refusal,
-            name: 0,
-            kind: 0,
-            place: index as u32,
-            length: 0,
-        },
-        Verdict::Printable(length) => {
-            write::create_cel_expr(out, policy, text, spans);
-            Printed {
-                refusal: 0,
-                name: 0,
-                kind: 0,
-                place: 0,
-                length: length as u32,
-            }
-        }
+    if let Judged::Faulty(refusal, index) = judged {
+        return refused(refusal, index);
+    }
+    let length = measure::printed_length(policy, text, spans);
+    if MAX_TEXT < length {
+        return refused(PRINTED_TOO_LONG, 0);
+    }
+    if out.len() < length {
+        return refused(OUTPUT_TOO_SHORT, 0);
+    }
+    write::create_cel_expr(out, policy, text, spans);
+    Printed {
+        refusal: 0,
+        name: 0,
+        kind: 0,
+        place: 0,
+        length: length as u32,
+    }
+}
+
+fn refused(refusal: u32, index: usize) -> Printed
+    requires { ⌜ index ≤ maxResponseOnly ⌝ }
+    ensures { λ r. ⌜ printTold r ≡ printAnswered (unprinted refusal index) ⌝ }
+{
+    Printed {
+        refusal,
+        name: 0,
+        kind: 0,
+        place: index as u32,
+        length: 0,
     }
 }

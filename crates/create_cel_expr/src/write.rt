@@ -1,74 +1,55 @@
 // The text, piece by piece. Each function writes from a place on and answers the place after what it wrote.
-ghost use mathlib.Core.Path.{_≡_};
-ghost use Prim.Native.Nat.{_+_, _≤_};
-ghost use lib.ListN.{length};
 ghost use mathlib.Core.List.{_++_};
 ghost use Rattle.cel_text.specs.Byte.{bytes};
-ghost use Rattle.cel_policy.specs.Policy.{content, numbers};
+ghost use Rattle.cel_policy.specs.Policy.{content, stringCount, numbers};
 ghost use Rattle.cel_policy.specs.Spans.{spanAt};
-ghost use Rattle.cel_policy.specs.Policy.{strings, stringCount};
-ghost use Rattle.cel_policy.specs.Answers.{placed};
 ghost use Rattle.cel_policy.specs.Printed.{listText, listKey, requestText, responseText, skipText, responseOnlyText, fullText, printed};
-ghost use Rattle.create_cel_expr.specs.Over.{Wrote, fits};
-ghost use Rattle.create_cel_expr.specs.Given.{policyOf, Inside, AllInside, listed};
+ghost use Rattle.cel_policy.specs.Laws.Judging.{SpanInside, SpansInside};
+ghost use Rattle.pieces.specs.Pieces.{Wrote};
+ghost use Rattle.create_cel_expr.specs.Given.{policyOf, stringsAt};
 use crate::span;
 use cel_policy::EXCLUSIONS;
 use cel_policy::Policy;
 use cel_policy::RESPONSE_ONLY;
 use cel_policy::SKIP;
 
-pub(crate) fn put(out: &mut [u8], at: usize, piece: &[u8]) -> usize
-    requires { ⌜ fits (now out) at (now piece) ⌝ }
-    ensures { λ r. ⌜ Wrote (now (out .entry)) (now (out .exit)) at r (now (piece .entry)) ⌝ }
-{
-    let n = bytes::copy(piece, &mut out[at..]);
-    at + n
-}
-
 // String i.
 fn string(out: &mut [u8], at: usize, text: &[u8], spans: &[u32], i: usize) -> usize
-    requires { ⌜ Inside (now spans) (now text) i ⌝ }
-    requires { ⌜ fits (now out) at (content (now text) (spanAt (now spans) i)) ⌝ }
+    requires { ⌜ SpanInside (now spans) (now text) i ⌝ }
     ensures { λ r. ⌜ Wrote (now (out .entry)) (now (out .exit)) at r (content (now (text .entry)) (spanAt (now (spans .entry)) i)) ⌝ }
 {
-    let from = span::from(spans, i);
-    let to = span::to(spans, i);
-    put(out, at, &text[from..to])
+    pieces::put(out, at, span::string(text, spans, i))
 }
 
 // String i after the one before it.
 fn next(out: &mut [u8], at: usize, text: &[u8], spans: &[u32], i: usize) -> usize
-    requires { ⌜ Inside (now spans) (now text) i ⌝ }
-    requires { ⌜ fits (now out) at (bytes "\",\"" ++ content (now text) (spanAt (now spans) i)) ⌝ }
+    requires { ⌜ SpanInside (now spans) (now text) i ⌝ }
     ensures { λ r. ⌜ Wrote (now (out .entry)) (now (out .exit)) at r (bytes "\",\"" ++ content (now (text .entry)) (spanAt (now (spans .entry)) i)) ⌝ }
 {
-    let past = put(out, at, b"\",\"");
+    let past = pieces::put(out, at, b"\",\"");
     string(out, past, text, spans, i)
 }
 
 // The first string of a list, after its quote.
 fn first(out: &mut [u8], at: usize, text: &[u8], spans: &[u32], i: usize) -> usize
-    requires { ⌜ Inside (now spans) (now text) i ⌝ }
-    requires { ⌜ fits (now out) at (bytes "\"" ++ content (now text) (spanAt (now spans) i)) ⌝ }
+    requires { ⌜ SpanInside (now spans) (now text) i ⌝ }
     ensures { λ r. ⌜ Wrote (now (out .entry)) (now (out .exit)) at r (bytes "\"" ++ content (now (text .entry)) (spanAt (now (spans .entry)) i)) ⌝ }
 {
-    let past = put(out, at, b"\"");
+    let past = pieces::put(out, at, b"\"");
     string(out, past, text, spans, i)
 }
 
 // A list's last quote.
 fn last(out: &mut [u8], at: usize) -> usize
-    requires { ⌜ fits (now out) at (bytes "\"") ⌝ }
     ensures { λ r. ⌜ Wrote (now (out .entry)) (now (out .exit)) at r (bytes "\"") ⌝ }
 {
-    put(out, at, b"\"")
+    pieces::put(out, at, b"\"")
 }
 
 // The strings from string `begin` on, `count` of them.
 fn list(out: &mut [u8], at: usize, text: &[u8], spans: &[u32], begin: usize, count: usize) -> usize
-    requires { ⌜ AllInside (now spans) (now text) count begin ⌝ }
-    requires { ⌜ fits (now out) at (listText (listed (now text) (now spans) count begin)) ⌝ }
-    ensures { λ r. ⌜ Wrote (now (out .entry)) (now (out .exit)) at r (listText (listed (now (text .entry)) (now (spans .entry)) count begin)) ⌝ }
+    requires { ⌜ SpansInside (now spans) (now text) count begin ⌝ }
+    ensures { λ r. ⌜ Wrote (now (out .entry)) (now (out .exit)) at r (listText (stringsAt (now (text .entry)) (now (spans .entry)) count begin)) ⌝ }
 {
     if count == 0 {
         return at;
@@ -92,11 +73,10 @@ fn titled(
     begin: usize,
     count: usize,
 ) -> usize
-    requires { ⌜ AllInside (now spans) (now text) count begin ⌝ }
-    requires { ⌜ fits (now out) at (now title ++ listText (listed (now text) (now spans) count begin)) ⌝ }
-    ensures { λ r. ⌜ Wrote (now (out .entry)) (now (out .exit)) at r (now (title .entry) ++ listText (listed (now (text .entry)) (now (spans .entry)) count begin)) ⌝ }
+    requires { ⌜ SpansInside (now spans) (now text) count begin ⌝ }
+    ensures { λ r. ⌜ Wrote (now (out .entry)) (now (out .exit)) at r (now (title .entry) ++ listText (stringsAt (now (text .entry)) (now (spans .entry)) count begin)) ⌝ }
 {
-    let past = put(out, at, title);
+    let past = pieces::put(out, at, title);
     list(out, past, text, spans, begin, count)
 }
 
@@ -108,8 +88,7 @@ fn create_request_cel_expr(
     text: &[u8],
     spans: &[u32],
 ) -> usize
-    requires { ⌜ AllInside (now spans) (now text) (stringCount (numbers policy)) 0 ⌝ }
-    requires { ⌜ fits (now out) at (requestText (policyOf policy (now text) (now spans))) ⌝ }
+    requires { ⌜ SpansInside (now spans) (now text) (stringCount (numbers policy)) 0 ⌝ }
     ensures { λ r. ⌜ Wrote (now (out .entry)) (now (out .exit)) at r (requestText (policyOf policy (now (text .entry)) (now (spans .entry)))) ⌝ }
 {
     let request = policy.request as usize;
@@ -132,18 +111,17 @@ fn create_request_cel_expr(
         request,
         query,
     );
-    put(out, parameters, b"]},")
+    pieces::put(out, parameters, b"]},")
 }
 
 // The key of the response list.
 fn list_key(out: &mut [u8], at: usize, kind: u32) -> usize
-    requires { ⌜ fits (now out) at (listKey kind) ⌝ }
     ensures { λ r. ⌜ Wrote (now (out .entry)) (now (out .exit)) at r (listKey kind) ⌝ }
 {
     if kind == EXCLUSIONS {
-        return put(out, at, b"response_header_exclusions");
+        return pieces::put(out, at, b"response_header_exclusions");
     }
-    put(out, at, b"certified_response_headers")
+    pieces::put(out, at, b"certified_response_headers")
 }
 
 // The response part.
@@ -154,12 +132,11 @@ fn create_response_cel_expr(
     text: &[u8],
     spans: &[u32],
 ) -> usize
-    requires { ⌜ AllInside (now spans) (now text) (stringCount (numbers policy)) 0 ⌝ }
-    requires { ⌜ fits (now out) at (responseText (policyOf policy (now text) (now spans))) ⌝ }
+    requires { ⌜ SpansInside (now spans) (now text) (stringCount (numbers policy)) 0 ⌝ }
     ensures { λ r. ⌜ Wrote (now (out .entry)) (now (out .exit)) at r (responseText (policyOf policy (now (text .entry)) (now (spans .entry)))) ⌝ }
 {
-    let begin = policy.request as usize + policy.query as usize;
-    let opened = put(out, at, b"response_certification:ResponseCertification{");
+    let begin = span::response(policy);
+    let opened = pieces::put(out, at, b"response_certification:ResponseCertification{");
     let keyed = list_key(out, opened, policy.kind);
     let headers = titled(
         out,
@@ -170,14 +147,13 @@ fn create_response_cel_expr(
         begin,
         policy.response as usize,
     );
-    put(out, headers, b"]}}")
+    pieces::put(out, headers, b"]}}")
 }
 
 fn create_default_skip_cel_expr(out: &mut [u8]) -> usize
-    requires { ⌜ fits (now out) 0 skipText ⌝ }
     ensures { λ r. ⌜ Wrote (now (out .entry)) (now (out .exit)) 0 r skipText ⌝ }
 {
-    put(
+    pieces::put(
         out,
         0,
         b"default_certification(ValidationArgs{no_certification:Empty{}})",
@@ -190,38 +166,35 @@ fn create_default_response_only_cel_expr(
     text: &[u8],
     spans: &[u32],
 ) -> usize
-    requires { ⌜ AllInside (now spans) (now text) (stringCount (numbers policy)) 0 ⌝ }
-    requires { ⌜ fits (now out) 0 (responseOnlyText (policyOf policy (now text) (now spans))) ⌝ }
+    requires { ⌜ SpansInside (now spans) (now text) (stringCount (numbers policy)) 0 ⌝ }
     ensures { λ r. ⌜ Wrote (now (out .entry)) (now (out .exit)) 0 r (responseOnlyText (policyOf policy (now (text .entry)) (now (spans .entry)))) ⌝ }
 {
-    let opened = put(
+    let opened = pieces::put(
         out,
         0,
         b"default_certification(ValidationArgs{certification:Certification{no_request_certification:Empty{},",
     );
     let response = create_response_cel_expr(out, opened, policy, text, spans);
-    put(out, response, b"}})")
+    pieces::put(out, response, b"}})")
 }
 
 fn create_default_full_cel_expr(out: &mut [u8], policy: Policy, text: &[u8], spans: &[u32]) -> usize
-    requires { ⌜ AllInside (now spans) (now text) (stringCount (numbers policy)) 0 ⌝ }
-    requires { ⌜ fits (now out) 0 (fullText (policyOf policy (now text) (now spans))) ⌝ }
+    requires { ⌜ SpansInside (now spans) (now text) (stringCount (numbers policy)) 0 ⌝ }
     ensures { λ r. ⌜ Wrote (now (out .entry)) (now (out .exit)) 0 r (fullText (policyOf policy (now (text .entry)) (now (spans .entry)))) ⌝ }
 {
-    let opened = put(
+    let opened = pieces::put(
         out,
         0,
         b"default_certification(ValidationArgs{certification:Certification{",
     );
     let request = create_request_cel_expr(out, opened, policy, text, spans);
     let response = create_response_cel_expr(out, request, policy, text, spans);
-    put(out, response, b"}})")
+    pieces::put(out, response, b"}})")
 }
 
-// The whole text of a policy that was found printable.
+// The whole text.
 pub(crate) fn create_cel_expr(out: &mut [u8], policy: Policy, text: &[u8], spans: &[u32]) -> usize
-    requires { ⌜ AllInside (now spans) (now text) (stringCount (numbers policy)) 0 ⌝ }
-    requires { ⌜ fits (now out) 0 (printed (policyOf policy (now text) (now spans))) ⌝ }
+    requires { ⌜ SpansInside (now spans) (now text) (stringCount (numbers policy)) 0 ⌝ }
     ensures { λ r. ⌜ Wrote (now (out .entry)) (now (out .exit)) 0 r (printed (policyOf policy (now (text .entry)) (now (spans .entry)))) ⌝ }
 {
     let form = policy.form;

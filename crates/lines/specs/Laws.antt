@@ -9,10 +9,10 @@ use mathlib.Core.List.{List, [], _∷_, _++_, append-assoc, append-nil}
 use lib.ListN.{length, getD, take, drop, length-append}
 use lib.Seq.{take-suc, take-length}
 use lib.Dec.{ltb}
-use borrow.Author.Tests.{lt-ltb, le-ltb, ltb-true, ltb-false}
+use borrow.Author.Tests.{lt-ltb, le-ltb, le-leb, lt-leb, ltb-true, ltb-false}
 use Rattle.io.specs.Digits.{glyph, digits, Fewest}
 use Rattle.lines.specs.declared.field.Count.the-variants.{Number}
-use Rattle.lines.specs.Fields.{readFrom, readDecimal}
+use Rattle.lines.specs.Fields.{hexValue, hexBytes, readFrom, readDecimal}
 use Rattle.lines.specs.Texts.{numeralIn, numeral, afterCommas, numerals, pair, pairs}
 
 -- both values of a test, each with its equation
@@ -171,3 +171,32 @@ digits-pair b k s f =
     let u : k ≤ 2 = le-of-suc-le-suc (lt-of-not-le (two-digits b k s f)) in
     let e : k ≡ 2 = omega (arith, f .0) in
     ap (λ (m : ℕ). digits 16 m b) e
+
+-- bytes are read back
+glyph-value : (d : ℕ) → d < 16 → hexValue (glyph d) ≡ d
+glyph-value d h =
+    by-test (ltb d 10)
+    (λ t. let l : d < 10 = ltb-true d 10 t in
+    let e : 48 + d - 48 ≡ d = omega arith in
+    rw (t, le-ltb (48 + d) 48 (omega arith), le-leb (48 + d) 57 (omega arith), e))
+    (λ t. let l : 10 ≤ d = ltb-false d 10 t in
+    let e : 87 + d - 87 ≡ d = omega arith in
+    rw (t, le-ltb (87 + d) 48 (omega arith), lt-leb (87 + d) 57 (omega arith), le-ltb (87 + d) 65 (omega arith), lt-leb (87 + d) 70 (omega arith))
+    (rw (le-ltb (87 + d) 97 (omega arith), le-leb (87 + d) 102 (omega arith), e)))
+
+read-pair : (b : ℕ) (rest : List ℕ) → b < 256 → hexBytes (pair b ++ rest) ≡ b ∷ hexBytes rest
+unfolding pair
+read-pair b rest h =
+    let high : b / 16 % 16 < 16 = omega arith in
+    let low : b % 16 < 16 = omega arith in
+    let e : 16 * (b / 16 % 16) + b % 16 ≡ b = omega arith in
+    rw (glyph-value (b / 16 % 16) high, glyph-value (b % 16) low, le-ltb 15 (b / 16 % 16) (omega arith), le-ltb 15 (b % 16) (omega arith), e)
+
+-- each is a byte
+abbrev pub AllBytes : List ℕ → Type 0
+AllBytes [] = Unit
+AllBytes (b ∷ bs) = (b < 256) × AllBytes bs
+
+pub pairs-read : (bs : List ℕ) → AllBytes bs → hexBytes (pairs bs) ≡ bs
+pairs-read [] h = refl
+pairs-read (b ∷ bs) h = read-pair b (pairs bs) (h .0) ∙ ap (λ (l : List ℕ). b ∷ l) (pairs-read bs (h .1))

@@ -1,184 +1,138 @@
--- From the value that a text begins with to the answer and the table of `read_tree`. Assumes nothing.
+-- From the value that a text begins with to the answer and the table of `read_over`. Assumes nothing.
 use mathlib.Core.Path.{_≡_, refl, sym, ap, _∙_}
-use Prim.Native.Nat.{ℕ, zero, suc, _+_, _-_, _*_, _≤_, _<_}
-use native.Mathlib.Nat.{zero-add, sub-zero, zero-sub, suc-sub-suc}
+use Prim.Native.Nat.{ℕ, _+_, _-_, _≤_, _<_}
+use native.Mathlib.Nat.{zero-add, sub-zero}
 use native.Mathlib.Omega.{arith}
-use mathlib.Core.Bool.{Bool, true, false, cond}
 use mathlib.Core.List.{[], _++_, append-nil, append-assoc}
-use lib.ListN.{length, take, drop, replicate, length-replicate, drop-of-length-le, take-append-drop}
-use lib.Seq.{sets-eq, length-take-le, take-all}
-use lib.Dec.{ltb}
-use borrow.Author.Tests.{lt-ltb, le-ltb, ne-eqb, le-leb}
-use Rattle.cel_text.specs.Byte.{Text, ascii, lead, stringByte}
+use lib.ListN.{length, take, drop, replicate, take-append-drop}
+use lib.Seq.{sets, sets-eq, length-take-le, take-all, take-at, drop-at, drop-append-le}
+use borrow.Author.Tests.{lt-ltb, le-ltb}
+use Rattle.cel_text.specs.Byte.{Text, ascii, lead}
 use Rattle.cel_text.specs.Tree.{Tree, nodes, unkeyed}
-use Rattle.cel_text.specs.Reading.{Fault, syntax, tooDeep, tooMany, Outcome, accepted, refused, root, read, limits}
-use Rattle.cel_text.specs.Table.{Words, rows, Left, untouched, cleared, filled, hold, nodesLeft, nodeWords}
-use Rattle.cel_text.specs.Laws.Class.{by-test, same-either-way}
-use Rattle.cel_text.specs.Answer.{Found, tree, fault, found, findTree, nodesAfter, treeAnswer, treeTable, faultNumber, maxText}
+use Rattle.cel_text.specs.Reading.{Fault, syntax, tooDeep, tooMany, root, read, limits, maxDepth}
+use Rattle.cel_text.specs.Table.{Words, rows, Left, cleared, holdOver, nodesLeft, nodeWords}
+use Rattle.cel_text.specs.Laws.Table.{length-rowsOf}
+use Rattle.cel_text.specs.Answer.{Found, tree, fault, found, findTree, nodesAfter, refusedAt, treeAnswer, treeTable, treeOver, faultNumber, maxText}
+use Rattle.parser.specs.Set.{stringSet}
 use Rattle.parser.specs.declared.Step.{Step}
 use Rattle.parser.specs.declared.Step.the-variants.{Next, Refused}
 use Rattle.parser.specs.Run.{endOf}
 use Rattle.parser.specs.Steps.{Valued}
-use Rattle.parser.specs.Found.{Finds, Small, answerOf, uses, staleFrom}
-use Rattle.parser.proofs.Rows.{length-rowsOf}
+use Rattle.parser.specs.Found.{Finds, Small, answerOf, staleFrom}
 
 -- ---- refusals 2 and 3, and the value
 
-pub find-long : (x : Text) → maxText < length x → findTree stringByte nodeWords x ≡ fault 2 maxText
+pub find-long : (x : Text) → maxText < length x → findTree stringSet nodeWords x ≡ fault 2 maxText
 find-long x h = rw (lt-ltb maxText (length x) h)
 
-pub find-other : (x : Text) (p : ℕ) → length x ≤ maxText → p ≡ endOf ascii x 0 → p < length x → findTree stringByte nodeWords x ≡ fault 3 p
+pub find-other : (x : Text) (p : ℕ) → length x ≤ maxText → p ≡ endOf ascii x 0 → p < length x → findTree stringSet nodeWords x ≡ fault 3 p
 find-other x p h e b =
     let here : p ≡ lead ascii x = e ∙ zero-add (lead ascii x) in
     let less : lead ascii x < length x = omega arith in
     rw (le-ltb maxText (length x) h, here, lt-ltb (lead ascii x) (length x) less)
 
-find-read : (x : Text) (p : ℕ) → length x ≤ maxText → p ≡ endOf ascii x 0 → length x ≤ p → findTree stringByte nodeWords x ≡ found (read stringByte limits x)
+find-read : (x : Text) (p : ℕ) → length x ≤ maxText → p ≡ endOf ascii x 0 → length x ≤ p → findTree stringSet nodeWords x ≡ found (read stringSet limits x)
 find-read x p h e b =
     let here : p ≡ lead ascii x = e ∙ zero-add (lead ascii x) in
     let all : length x ≤ lead ascii x = omega arith in
     rw (le-ltb maxText (length x) h, le-ltb (lead ascii x) (length x) all)
 
-number-low : (f : Fault) → 1 < faultNumber f
-number-low syntax = omega arith
-number-low tooDeep = omega arith
-number-low tooMany = omega arith
+fault-clears : (f : Fault) → nodesLeft (faultNumber f) ≡ cleared
+fault-clears syntax = refl
+fault-clears tooDeep = refl
+fault-clears tooMany = refl
 
-number-high : (f : Fault) → faultNumber f ≤ 6
-number-high syntax = omega arith
-number-high tooDeep = omega arith
-number-high tooMany = omega arith
-
-pub find-value : (x : Text) (w w′ : Words) (p : ℕ) → length x ≤ maxText → p ≡ endOf ascii x 0 → length x ≤ p → (s : Step) → Valued x w w′ 0 0 32 0 0 0 s → Finds x w w′ s
-find-value x w w′ p h e b (Next q m d) v =
+pub find-value : (x : Text) (w w′ : Words) (p : ℕ) → length x ≤ maxText → p ≡ endOf ascii x 0 → length x ≤ p → (s : Step) → Valued x w w′ 0 0 maxDepth 0 0 0 s → Finds x w w′ s
+find-value x w w′ p h e b (Next r) v =
     record {
       found = v .tree;
       finds = find-read x p h e b ∙ ap found (v .reading root (record { below = refl; sofar = refl }));
-      counts = v .counts ∙ zero-add (nodes (v .tree));
-      deep = v .deep;
       rows-put = v .rows unkeyed refl refl;
-      room = v .room;
-      shallow = v .shallow;
+      sized = v .sized;
     }
 find-value x w w′ p h e b (Refused r q) v =
     record {
       finds = find-read x p h e b ∙ ap found (v .refuses root (record { below = refl; sofar = refl })) ∙ ap (λ (n : ℕ). fault n (q .0)) (v .number);
-      low = rw (sym (v .number)) (number-low (v .fault));
-      high = rw (sym (v .number)) (number-high (v .fault));
+      clears = rw (sym (v .number)) (fault-clears (v .fault));
       within = omega (arith, v .within);
     }
 
--- ---- the answer and the table, where exactly the counted words are lent
+-- ---- the answer and the table
 
 pub small : (x : Text) (w w′ : Words) (s : Step) → Finds x w w′ s → Small s
-small x w w′ (Next q m d) f = (f .room, f .shallow)
-small x w w′ (Refused r p) f = (omega (arith, f .low), f .high, f .within)
+small x w w′ (Next r) f = (f .sized .room, f .sized .shallow)
+small x w w′ (Refused r p) f = f .within
 
-pub small-nodes : (s : Step) → Small s → answerOf s .nodes ≤ 256
-small-nodes (Next q m d) h = h .0
-small-nodes (Refused r p) h = simp same-either-way (omega arith)
-
-pub find-answer : (x : Text) (w w′ : Words) (s : Step) → Finds x w w′ s → answerOf s ≡ treeAnswer nodeWords x
-unfolding treeAnswer
-find-answer x w w′ (Next q m d) f = rw (f .finds, f .counts, f .deep)
-find-answer x w w′ (Refused r p) f =
-    rw (f .finds, ne-eqb r 1 (λ e. omega (arith, f .low)), le-leb 2 r (omega (arith, f .low)), le-leb r 6 (f .high))
-
-left-cleared : (r : ℕ) → 1 < r → r ≤ 6 → nodesLeft r ≡ cleared
-left-cleared r h h′ = let some : r ≡ 1 → ⊥ = λ e. omega arith in rw (ne-eqb r 1 some, lt-ltb 1 r h, le-leb r 6 h′)
-
-stale-all : (r : ℕ) → 1 < r → r ≤ 6 → staleFrom r ≡ 0
-stale-all r h h′ = rw (le-leb 2 r h, le-leb r 6 h′)
-
-drop-none : (w : Words) → length w ≡ nodeWords → drop nodeWords w ≡ []
-drop-none w h = let less : length w ≤ nodeWords = omega arith in drop-of-length-le w less
-
-table-found : (x : Text) (w : Words) (f : Found) → length w ≡ nodeWords → findTree stringByte nodeWords x ≡ f → treeTable x w ≡ nodesAfter f w
-unfolding treeTable
-table-found x w f h e = ap (λ (n : ℕ). nodesAfter (findTree stringByte n x) w) h ∙ ap (λ (g : Found). nodesAfter g w) e
+find-wide : (x : Text) (n : ℕ) → nodeWords ≤ n → findTree stringSet n x ≡ findTree stringSet nodeWords x
+find-wide x n h = rw (le-ltb n nodeWords h)
 
 -- the table w′, cleared from a place on
 abbrev pub clearedFrom : Words → ℕ → Words
 clearedFrom w′ i = take i w′ ++ replicate (length w′ - i) 0
-
-pub zeros-long : {w : Words} → w ≡ replicate nodeWords 0 → length w ≡ nodeWords
-zeros-long z = ap length z ∙ length-replicate {A = ℕ} nodeWords 0
-
-drop-zeros : (i n : ℕ) → drop {A = ℕ} i (replicate n 0) ≡ replicate (n - i) 0
-drop-zeros zero n = rw sub-zero
-drop-zeros (suc i) zero = rw zero-sub
-drop-zeros (suc i) (suc n) = rw suc-sub-suc (drop-zeros i n)
 
 clear-none : (w′ : Words) (n : ℕ) → length w′ ≡ n → clearedFrom w′ n ≡ w′
 clear-none w′ n h =
     let none : length w′ - n ≡ 0 = omega arith in
     rw (none, take-all n w′ (omega arith)) (append-nil w′)
 
--- w is a table of the counted words, all 0
-module _ (x : Text) (w : Words) (z : w ≡ replicate nodeWords 0) where
-  h : length w ≡ nodeWords
-  h = zeros-long z
+pub clear-all : (w′ : Words) (n : ℕ) → length w′ ≡ n → clearedFrom w′ 0 ≡ replicate n 0
+clear-all w′ n h = rw (sub-zero, h)
 
-  pub find-table : (w′ : Words) (s : Step) → Finds x w w′ s → length w′ ≡ nodeWords → clearedFrom w′ (staleFrom (answerOf s .refusal)) ≡ treeTable x w
-  find-table w′ (Next q m d) f h′ =
+-- words put at the start of the first n
+put-front : (n : ℕ) (ws w : Words) → length ws ≤ n → n ≤ length w → sets (take n w) 0 ws ++ drop n w ≡ ws ++ drop (length ws) w
+put-front n ws w hs hw =
+    let long : length (take n w) ≡ n = length-take-le n w hw in
+    let fits : 0 + length ws ≤ length (take n w) = omega arith in
+    let inside : length ws ≤ length (take n w) = omega arith in
+    ap (λ (l : Words). l ++ drop n w) (sets-eq ws (take n w) 0 fits)
+    ∙ append-assoc ws (drop (0 + length ws) (take n w)) (drop n w)
+    ∙ ap (λ (k : ℕ). ws ++ (drop k (take n w) ++ drop n w)) (zero-add (length ws))
+    ∙ ap (λ (l : Words). ws ++ l) (sym (drop-append-le (length ws) (take n w) (drop n w) inside) ∙ ap (drop (length ws)) (take-append-drop n w))
+
+-- a table w with the counted words and perhaps more, of which those are lent
+module _ (x : Text) (w : Words) (h : nodeWords ≤ length w) where
+  pub find-answer : (w′ : Words) (s : Step) → Finds x (take nodeWords w) w′ s → answerOf s ≡ treeAnswer (length w) x
+  unfolding treeAnswer
+  find-answer w′ (Next r) f =
+      let counts : r .next .0 ≡ nodes (f .found) = f .sized .counts ∙ zero-add (nodes (f .found)) in
+      rw (find-wide x (length w) h, f .finds, counts, f .sized .deep)
+  find-answer w′ (Refused r p) f = rw (find-wide x (length w) h, f .finds)
+
+  over-found : (f : Found) → findTree stringSet nodeWords x ≡ f → nodesAfter holdOver f w ≡ treeOver x w
+  unfolding treeOver
+  over-found f e = rw (find-wide x (length w) h, e)
+
+  over-front : (w′ : Words) (s : Step) → Finds x (take nodeWords w) w′ s → length w′ ≡ nodeWords
+      → clearedFrom w′ (staleFrom (nodesLeft (answerOf s .refusal))) ++ drop nodeWords w ≡ treeOver x w
+  over-front w′ (Next r) f h′ =
       let t : Tree = f .found in
-      let long : length (rows t) ≡ 8 * m .0 = omega (arith, length-rowsOf t unkeyed 0 0, f .counts) in
-      let put : w′ ≡ rows t ++ drop (0 + length (rows t)) w = f .rows-put ∙ sets-eq (rows t) w 0 (omega (arith, f .room, h)) in
-      let rest : drop (0 + length (rows t)) w ≡ replicate (nodeWords - length (rows t)) 0
-      = rw zero-add (ap (drop (length (rows t))) z ∙ drop-zeros (length (rows t)) nodeWords) in
-      clear-none w′ nodeWords h′ ∙ put ∙ rw (rest, table-found x w (tree t (q .0)) h (f .finds), drop-none w h, append-nil)
-  find-table w′ (Refused r p) f h′ =
-      rw (table-found x w (fault r (p .0)) h (f .finds), left-cleared r (f .low) (f .high), stale-all r (f .low) (f .high), h′, drop-none w h)
+      let fits : length (rows t) ≤ nodeWords = omega (arith, length-rowsOf t unkeyed 0 0, f .sized .counts, f .sized .room) in
+      ap (λ (l : Words). l ++ drop nodeWords w) (clear-none w′ nodeWords h′ ∙ f .rows-put)
+      ∙ put-front nodeWords (rows t) w fits h
+      ∙ over-found (tree t (r .end .0)) (f .finds)
+  over-front w′ (Refused r p) f h′ =
+      ap (λ (l : Left). clearedFrom w′ (staleFrom l) ++ drop nodeWords w) (f .clears)
+      ∙ ap (λ (l : Words). l ++ drop nodeWords w) (clear-all w′ nodeWords h′)
+      ∙ ap (λ (l : Left). holdOver l nodeWords [] w) (sym (f .clears))
+      ∙ over-found (fault r (p .0)) (f .finds)
 
--- what a table of the counted words held before does not matter
-module _ (x : Text) (v w : Words) (hv : length v ≡ nodeWords) (hw : length w ≡ nodeWords) where
-  abbrev Same : Found → Type 0
-  Same f = nodesAfter f v ≡ nodesAfter f w
-
-  same-outcome : (o : Outcome) → Same (found o)
-  same-outcome (accepted t q) = rw (drop-none v hv, drop-none w hw)
-  same-outcome (refused syntax p) = rw (drop-none v hv, drop-none w hw)
-  same-outcome (refused tooDeep p) = rw (drop-none v hv, drop-none w hw)
-  same-outcome (refused tooMany p) = rw (drop-none v hv, drop-none w hw)
-
-  pub table-same : treeTable x v ≡ treeTable x w
-  unfolding treeTable
-  table-same =
-      rw (hv, hw)
-      (by-test Same (ltb maxText (length x)) _ _ (λ e. rw (drop-none v hv, drop-none w hw)) (λ e.
-      by-test Same (ltb (lead ascii x) (length x)) _ _ (λ e. rw (drop-none v hv, drop-none w hw)) (λ e.
-      same-outcome (read stringByte limits x))))
-
--- ---- a longer table
-
-pub find-wide : (x : Text) (n : ℕ) → nodeWords ≤ n → findTree stringByte n x ≡ findTree stringByte nodeWords x
-find-wide x n h = rw (le-ltb n nodeWords h)
-
-drop-front : (n : ℕ) (w : Words) → n ≤ length w → drop n (take n w) ≡ []
-drop-front n w h = let less : length (take n w) ≤ n = omega (arith, length-take-le n w h) in drop-of-length-le (take n w) less
-
-pub hold-front : (l : Left) (n : ℕ) (ws w : Words) → n ≤ length w → hold l n ws (take n w) ++ drop n w ≡ hold l n ws w
-hold-front untouched n ws w h = take-append-drop n w
-hold-front cleared n ws w h = rw (drop-front n w h, append-nil)
-hold-front filled n ws w h = rw (drop-front n w h, append-nil, append-assoc)
-
-after-front : (f : Found) (w : Words) → nodeWords ≤ length w → nodesAfter f (take nodeWords w) ++ drop nodeWords w ≡ nodesAfter f w
-after-front (tree t q) w h = hold-front (nodesLeft 0) nodeWords (rows t) w h
-after-front (fault r p) w h = hold-front (nodesLeft r) nodeWords [] w h
-
-pub table-front : (x : Text) (w : Words) → nodeWords ≤ length w → treeTable x (take nodeWords w) ++ drop nodeWords w ≡ treeTable x w
-unfolding treeTable
-table-front x w h = rw (length-take-le nodeWords w h, find-wide x (length w) h) (after-front (findTree stringByte nodeWords x) w h)
-
-pub answer-front : (x : Text) (n : ℕ) → nodeWords ≤ n → treeAnswer nodeWords x ≡ treeAnswer n x
-unfolding treeAnswer
-answer-front x n h = rw (find-wide x n h)
+  -- v is what clearing leaves of the words lent
+  pub find-over : (w′ : Words) (s : Step) → Finds x (take nodeWords w) w′ s → length w′ ≡ length (take nodeWords w) → (i : ℕ) → i ≡ staleFrom (nodesLeft (answerOf s .refusal))
+      → (v : Words) → v ≡ clearedFrom (take nodeWords (w′ ++ drop nodeWords w)) i → v ++ drop nodeWords (w′ ++ drop nodeWords w) ≡ treeOver x w
+  find-over w′ s f h′ i e v c =
+      let long : length w′ ≡ nodeWords = h′ ∙ length-take-le nodeWords w h in
+      rw (c, take-at w′ (drop nodeWords w) nodeWords long, drop-at w′ (drop nodeWords w) nodeWords long, e) (over-front w′ s f long)
 
 -- a table that is too short
-pub answer-short : (x : Text) (n : ℕ) → n < nodeWords → uses 1 0 0 0 ≡ treeAnswer n x
-unfolding treeAnswer
-answer-short x n h = rw (lt-ltb n nodeWords h)
+module _ (x : Text) where
+  pub answer-short : (n : ℕ) → n < nodeWords → refusedAt 1 0 ≡ treeAnswer n x
+  unfolding treeAnswer
+  answer-short n h = rw (lt-ltb n nodeWords h)
 
-pub table-short : (x : Text) (w : Words) → length w < nodeWords → w ≡ treeTable x w
-unfolding treeTable
-table-short x w h = rw (lt-ltb (length w) nodeWords h)
+  pub over-short : (w : Words) → length w < nodeWords → w ≡ treeOver x w
+  unfolding treeOver
+  over-short w h = rw (lt-ltb (length w) nodeWords h)
+
+  pub table-short : (w : Words) → length w < nodeWords → w ≡ treeTable x w
+  unfolding treeTable
+  table-short w h = rw (lt-ltb (length w) nodeWords h)

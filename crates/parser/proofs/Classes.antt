@@ -8,6 +8,7 @@ use mathlib.Core.Logic.{⊎-elim}
 use lib.Dec.{eqb, leb}
 use lib.Bits.{bitOr}
 use Rattle.cel_text.specs.Byte.{blank, alphanumeric, identByte, stringByte}
+use Rattle.parser.specs.Set.{stringSet}
 use Rattle.parser.specs.Run.{letter, digit}
 
 pub space-blank : blank 32 ≡ true
@@ -33,9 +34,9 @@ module _ (b : ℕ) where
   unfolding identByte
   ident-tests = rw letters-digits
 
-  pub content-tests : stringByte b ≡ letter b || digit b || eqb b 45
+  pub string-tests : stringSet b ≡ letter b || digit b || eqb b 45
   unfolding stringByte
-  content-tests = rw letters-digits
+  string-tests = rw letters-digits
 
 -- whether all numbers below n pass a test
 abbrev all : (ℕ → Bool) → ℕ → Bool

@@ -8,4 +8,3 @@ mod Values
 mod Lists
 mod Handed
 pub mod Answers
-pub mod Accepted

@@ -13,6 +13,7 @@ use Rattle.cel_text.specs.Byte.{Text, blank, identByte, stringByte, alphanumeri
 use Rattle.cel_text.specs.Tree.{Kind, array, object, function, closer, string}
 use Rattle.cel_text.specs.Reading.{Stack, Frame, Due, value, entry, State, before, naming, named, quoted, dropping, begun, after, Step, go, refuse, syntax, refused, child, whole, closed, past, bare, start, unquote, step, follow, run, limits}
 use Rattle.cel_text.specs.Laws.Class.{closer-comma, closer-closer}
+use Rattle.parser.specs.Set.{stringSet}
 use Rattle.parser.specs.Run.{endOf, NamedAt}
 use Rattle.parser.specs.Kinds.{openerKind, opens}
 use Rattle.parser.specs.Steps.{reads, goesOn}
@@ -20,10 +21,10 @@ use Rattle.parser.proofs.Runs.{decide, end-stop, end-more, end-other, c
 
 -- what a byte does in a state
 abbrev pub does : State → (p b : ℕ) → Step
-does st p b = step stringByte limits st p b
+does st p b = step stringSet limits st p b
 
 -- the byte 0 is refused in every state, as the end of the text is
-start-zero : (w : Due) (p : ℕ) → start stringByte limits w p 0 ≡ refuse syntax
+start-zero : (w : Due) (p : ℕ) → start stringSet limits w p 0 ≡ refuse syntax
 unfolding start bare past blank identByte alphanumeric
 start-zero (value K) p = refl
 start-zero (entry K f) p = refl
@@ -33,17 +34,21 @@ closer-zero array = refl
 closer-zero object = refl
 closer-zero function = refl
 
-past-zero : (w : Due) (from to p : ℕ) → past stringByte limits w from to p 0 ≡ refuse syntax
+past-zero : (w : Due) (from to p : ℕ) → past stringSet limits w from to p 0 ≡ refuse syntax
 unfolding past
 past-zero (value K) from to p = refl
 past-zero (entry K f) from to p = refl
 
+string-zero : stringSet 0 ≡ false
+unfolding stringByte alphanumeric
+string-zero = refl
+
 does-zero : (st : State) (p : ℕ) → does st p 0 ≡ refuse syntax
-unfolding step unquote blank identByte alphanumeric stringByte
+unfolding step unquote blank identByte alphanumeric
 does-zero (before w) p = start-zero w p
 does-zero (naming w from) p = past-zero w from p p
 does-zero (named w from to) p = past-zero w from to p
-does-zero (quoted K o) p = refl
+does-zero (quoted K o) p = rw string-zero
 does-zero (dropping K o to) p = refl
 does-zero (begun K f) p = rw (closer-zero (f .kind)) (start-zero (child (f .kind) K f) p)
 does-zero (after K f) p = rw (closer-zero (f .kind))
@@ -52,7 +57,7 @@ does-zero (after K f) p = rw (closer-zero (f .kind))
 pub look : (st : State) (x : Text) (p : ℕ) → reads st x p ≡ goesOn (does st p (getD x p 0)) x p
 look st x p = look-at x p p
   where
-    look-at : (x : Text) (i p : ℕ) → run stringByte limits st p (drop i x) ≡ follow (does st p (getD x i 0)) p (λ st′. run stringByte limits st′ (suc p) (drop (suc i) x))
+    look-at : (x : Text) (i p : ℕ) → run stringSet limits st p (drop i x) ≡ follow (does st p (getD x i 0)) p (λ st′. run stringSet limits st′ (suc p) (drop (suc i) x))
     look-at [] zero p = rw (does-zero st p)
     look-at [] (suc i) p = rw (does-zero st p)
     look-at (b ∷ bs) zero p = refl
@@ -68,13 +73,13 @@ same-here st st′ x p e = sees st x p e ∙ sym (look st′ x p)
 
 -- a state that a class of bytes leaves as it is reads a run of them
 pub over : (f : ℕ → Bool) (st : State) → ((p b : ℕ) → f b ≡ true → does st p b ≡ go st) → (x : Text) (p : ℕ) → reads st x p ≡ reads st x (endOf f x p)
-over f st h x p = over-lead (drop p x) p ∙ ap (run stringByte limits st (endOf f x p)) (drop-drop (lead f (drop p x)) p x)
+over f st h x p = over-lead (drop p x) p ∙ ap (run stringSet limits st (endOf f x p)) (drop-drop (lead f (drop p x)) p x)
   where
-    over-lead : (y : Text) (p : ℕ) → run stringByte limits st p y ≡ run stringByte limits st (p + lead f y) (drop (lead f y) y)
+    over-lead : (y : Text) (p : ℕ) → run stringSet limits st p y ≡ run stringSet limits st (p + lead f y) (drop (lead f y) y)
     over-lead [] p = rw add-zero
     over-lead (b ∷ bs) p =
         decide (f b)
-        (λ t. rw (h p b t, t) (over-lead bs (suc p) ∙ ap (λ (q : ℕ). run stringByte limits st q (drop (lead f bs) bs)) (omega arith)))
+        (λ t. rw (h p b t, t) (over-lead bs (suc p) ∙ ap (λ (q : ℕ). run stringSet limits st q (drop (lead f bs) bs)) (omega arith)))
         (λ t. rw (t, add-zero))
 
 over-before : (w : Due) (x : Text) (p : ℕ) → reads (before w) x p ≡ reads (before w) x (endOf blank x p)
@@ -88,20 +93,16 @@ ident-zero : identByte 0 ≡ false
 unfolding identByte alphanumeric
 ident-zero = refl
 
-content-zero : stringByte 0 ≡ false
-unfolding stringByte alphanumeric
-content-zero = refl
-
 -- the byte after a name, which may be empty
 abbrev pub pastName : Due → (from to p b : ℕ) → Step
-pastName w from to p b = cond (eqb from to) (bare stringByte limits w p b) (past stringByte limits w from to p b)
+pastName w from to p b = cond (eqb from to) (bare stringSet limits w p b) (past stringSet limits w from to p b)
 
 -- what a byte does, by its class
 before-naming : (w : Due) (p b : ℕ) → blank b ≡ false → identByte b ≡ true → does (before w) p b ≡ go (naming w p)
 unfolding step start
 before-naming w p b nb t = rw (nb, t)
 
-before-bare : (w : Due) (p b : ℕ) → blank b ≡ false → identByte b ≡ false → does (before w) p b ≡ bare stringByte limits w p b
+before-bare : (w : Due) (p b : ℕ) → blank b ≡ false → identByte b ≡ false → does (before w) p b ≡ bare stringSet limits w p b
 unfolding step start
 before-bare w p b nb t = rw (nb, t)
 
@@ -109,7 +110,7 @@ naming-past : (w : Due) (from p b : ℕ) → identByte b ≡ false → does (nam
 unfolding step
 naming-past w from p b ni = rw ni
 
-named-past : (w : Due) (from to p b : ℕ) → blank b ≡ false → does (named w from to) p b ≡ past stringByte limits w from to p b
+named-past : (w : Due) (from to p b : ℕ) → blank b ≡ false → does (named w from to) p b ≡ past stringSet limits w from to p b
 unfolding step
 named-past w from to p b nb = rw nb
 
@@ -118,12 +119,12 @@ abbrev pub named-from : (kind place : ℕ) → ℕ
 named-from kind p = cond (eqb kind 2) 0 p
 
 -- the byte that opens a value, after an identifier and after none
-past-opens : (K : Stack) (from to p b : ℕ) → past stringByte limits (value K) from to p b ≡ opens (openerKind false b) K (named-from (openerKind false b) from) (named-from (openerKind false b) to) p
+past-opens : (K : Stack) (from to p b : ℕ) → past stringSet limits (value K) from to p b ≡ opens (openerKind false b) K (named-from (openerKind false b) from) (named-from (openerKind false b) to) p
 unfolding past
 past-opens K from to p b =
     decide (eqb b 123) (λ t. rw t) (λ t₁. decide (eqb b 40) (λ t. rw (t₁, t)) (λ t₂. decide (eqb b 91) (λ t. rw (t₁, t₂, t)) (λ t₃. decide (eqb b 34) (λ t. rw (t₁, t₂, t₃, t)) (λ t. rw (t₁, t₂, t₃, t)))))
 
-bare-opens : (K : Stack) (p b : ℕ) → bare stringByte limits (value K) p b ≡ opens (openerKind true b) K (named-from (openerKind true b) p) (named-from (openerKind true b) p) p
+bare-opens : (K : Stack) (p b : ℕ) → bare stringSet limits (value K) p b ≡ opens (openerKind true b) K (named-from (openerKind true b) p) (named-from (openerKind true b) p) p
 unfolding bare past
 bare-opens K p b =
     decide (eqb b 123) (λ t. rw (eqb-true b 123 t)) (λ t₁. decide (eqb b 40) (λ t. rw (eqb-true b 40 t)) (λ t₂. decide (eqb b 91) (λ t. rw (t₁, t₂, t)) (λ t₃. decide (eqb b 34) (λ t. rw (t₁, t₂, t₃, t)) (λ t. rw (t₁, t₂, t₃, t)))))
@@ -148,7 +149,7 @@ module _ (x : Text) {p from to end : ℕ} (n : NamedAt x p from to end) where
       short : to ≡ from → identByte (getD x from 0) ≡ false → reads (before w) x from ≡ goesOn (pastName w from to end (getD x end 0)) x end
       short e t =
           let here : end ≡ from = empty-ends (sym e) in
-          let begin : does (before w) from (getD x from 0) ≡ bare stringByte limits w from (getD x from 0) = before-bare w from (getD x from 0) no-blank t in
+          let begin : does (before w) from (getD x from 0) ≡ bare stringSet limits w from (getD x from 0) = before-bare w from (getD x from 0) no-blank t in
           rw (e, here, eq-eqb from from refl) (sees (before w) x from begin)
 
       long : identByte (getD x from 0) ≡ true → reads (before w) x from ≡ goesOn (pastName w from to end (getD x end 0)) x end
@@ -165,17 +166,17 @@ module _ (x : Text) {p from to end : ℕ} (n : NamedAt x p from to end) where
           ∙ ap (reads (named w from to) x) (sym (n .ends))
           ∙ sees (named w from to) x end (named-past w from to end (getD x end 0) other))
 
-  past-entry : (K : Stack) (f : Frame) → pastName (entry K f) from to end (getD x end 0) ≡ past stringByte limits (entry K f) from to end (getD x end 0)
+  past-entry : (K : Stack) (f : Frame) → pastName (entry K f) from to end (getD x end 0) ≡ past stringSet limits (entry K f) from to end (getD x end 0)
   past-entry K f = decide (eqb from to) same (λ t. rw t)
     where
-      same : eqb from to ≡ true → pastName (entry K f) from to end (getD x end 0) ≡ past stringByte limits (entry K f) from to end (getD x end 0)
+      same : eqb from to ≡ true → pastName (entry K f) from to end (getD x end 0) ≡ past stringSet limits (entry K f) from to end (getD x end 0)
       same t =
           let e : to ≡ from = sym (eqb-true from to t) in
           let here : end ≡ from = empty-ends (sym e) in
           rw (t, e, here) (unfold bare in refl)
 
   -- the colon of an entry
-  pub over-key : (K : Stack) (f : Frame) → reads (before (entry K f)) x p ≡ goesOn (past stringByte limits (entry K f) from to end (getD x end 0)) x end
+  pub over-key : (K : Stack) (f : Frame) → reads (before (entry K f)) x p ≡ goesOn (past stringSet limits (entry K f) from to end (getD x end 0)) x end
   over-key K f = over-name (entry K f) ∙ ap (λ (s : Step). goesOn s x end) (past-entry K f)
 
   past-value : (K : Stack) → pastName (value K) from to end (getD x end 0)
@@ -198,7 +199,7 @@ module _ (x : Text) {p from to end : ℕ} (n : NamedAt x p from to end) where
 abbrev pub closing : Stack → (o to p b : ℕ) → Step
 closing K o to p b = cond (eqb b quote) (whole K (string o to (suc p))) (refuse syntax)
 
-quoted-past : (K : Stack) (o p b : ℕ) → stringByte b ≡ false → does (quoted K o) p b ≡ does (dropping K o p) p b
+quoted-past : (K : Stack) (o p b : ℕ) → stringSet b ≡ false → does (quoted K o) p b ≡ does (dropping K o p) p b
 unfolding step
 quoted-past K o p b ns = rw ns
 
@@ -207,12 +208,12 @@ unfolding step unquote
 dropping-closing K o to p b nb = rw nb
 
 -- a string's content, the blanks after it and the byte at their end
-pub over-string : (K : Stack) (o : ℕ) (x : Text) (at to end : ℕ) → to ≡ endOf stringByte x at → end ≡ endOf blank x to
+pub over-string : (K : Stack) (o : ℕ) (x : Text) (at to end : ℕ) → to ≡ endOf stringSet x at → end ≡ endOf blank x to
     → reads (quoted K o) x at ≡ goesOn (closing K o to end (getD x end 0)) x end
 over-string K o x at to end e e′ =
-    let ns : stringByte (getD x to 0) ≡ false = rw e (end-other stringByte x content-zero at) in
+    let ns : stringSet (getD x to 0) ≡ false = rw e (end-other stringSet x string-zero at) in
     let nb : blank (getD x end 0) ≡ false = rw e′ (end-other blank x blank-zero to) in
-    over stringByte (quoted K o) (λ p b t. unfold step in rw t) x at
+    over stringSet (quoted K o) (λ p b t. unfold step in rw t) x at
     ∙ ap (reads (quoted K o) x) (sym e)
     ∙ same-here (quoted K o) (dropping K o to) x to (quoted-past K o to (getD x to 0) ns)
     ∙ over blank (dropping K o to) (λ p b t. unfold step unquote in rw t) x to

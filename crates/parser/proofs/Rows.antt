@@ -8,7 +8,8 @@ use mathlib.Core.List.{[], _∷_, _++_, append-nil, append-assoc}
 use lib.ListN.{length, set, take, replicate, length-append, length-set, replicate-append-replicate}
 use lib.Seq.{sets, set-comm, take-all, take-suc-set}
 use Rattle.cel_text.specs.Tree.{Kind, Key, Tree, string, container, Trees, ∅, _▸_∶_, nodes, nodesAll, count}
-use Rattle.cel_text.specs.Table.{Words, rowsOf, rowsAll, kindNumber, keyFrom, keyTo, stringKind}
+use Rattle.cel_text.specs.Table.{Words, rowsOf, rowsAll, kindNumber, keyFrom, keyTo, stringKind, rowWords}
+pub use Rattle.cel_text.specs.Laws.Table.{length-rowsOf, length-rowsAll}
 
 pub sets-append : (vs ws l : Words) (i : ℕ) → sets l i (vs ++ ws) ≡ sets (sets l i vs) (i + length vs) ws
 sets-append [] ws l i = rw add-zero
@@ -23,41 +24,31 @@ pub sets-before : (vs ws l : Words) (i j : ℕ) → j + length ws ≤ i → sets
 sets-before vs [] l i j h = refl
 sets-before vs (a ∷ ws) l i j h = ap (λ (w : Words). sets w (suc j) ws) (set-sets vs l i j a (omega arith)) ∙ sets-before vs ws (set l j a) i (suc j) (omega arith)
 
-mutual
-  pub length-rowsOf : (t : Tree) (k : Key) (u n : ℕ) → length (rowsOf t k u n) ≡ 8 * nodes t
-  length-rowsOf (string o to q) k u n = refl
-  length-rowsOf (container c o from to q ts) k u n = omega (arith, length-rowsAll ts (suc n) (suc n))
-
-  pub length-rowsAll : (ts : Trees) (u n : ℕ) → length (rowsAll ts u n) ≡ 8 * nodesAll ts
-  length-rowsAll ∅ u n = refl
-  length-rowsAll (ts ▸ k ∶ t) u n =
-      length-append (rowsAll ts u n) (rowsOf t k u (n + nodesAll ts)) ∙ omega (arith, length-rowsAll ts u n, length-rowsOf t k u (n + nodesAll ts))
-
 -- one child more
 pub rows-child : (w : Words) (ts : Trees) (k : Key) (t : Tree) (u n : ℕ) (m : ℕ) → m ≡ n + nodesAll ts
-    → sets (sets w (8 * n) (rowsAll ts u n)) (8 * m) (rowsOf t k u m) ≡ sets w (8 * n) (rowsAll (ts ▸ k ∶ t) u n)
+    → sets (sets w (rowWords * n) (rowsAll ts u n)) (rowWords * m) (rowsOf t k u m) ≡ sets w (rowWords * n) (rowsAll (ts ▸ k ∶ t) u n)
 rows-child w ts k t u n m e =
-    let place : 8 * (n + nodesAll ts) ≡ 8 * n + length (rowsAll ts u n) = omega (arith, length-rowsAll ts u n) in
-    rw (e, place) (sym (sets-append (rowsAll ts u n) (rowsOf t k u (n + nodesAll ts)) w (8 * n)))
+    let place : rowWords * (n + nodesAll ts) ≡ rowWords * n + length (rowsAll ts u n) = omega (arith, length-rowsAll ts u n) in
+    rw (e, place) (sym (sets-append (rowsAll ts u n) (rowsOf t k u (n + nodesAll ts)) w (rowWords * n)))
 
 -- a row's first six words, then its last two
 pub rows-string : (w : Words) (o to q kf kt u n : ℕ) (k : Key) → keyFrom k ≡ kf → keyTo k ≡ kt
-    → sets (sets w (8 * n) (stringKind ∷ suc o ∷ to ∷ kf ∷ kt ∷ u ∷ [])) (8 * n + 6) (0 ∷ suc n ∷ []) ≡ sets w (8 * n) (rowsOf (string o to q) k u n)
-rows-string w o to q kf kt u n k e e′ = rw (sym e, sym e′) (sym (sets-append (stringKind ∷ suc o ∷ to ∷ keyFrom k ∷ keyTo k ∷ u ∷ []) (0 ∷ suc n ∷ []) w (8 * n)))
+    → sets (sets w (rowWords * n) (stringKind ∷ suc o ∷ to ∷ kf ∷ kt ∷ u ∷ [])) (rowWords * n + 6) (0 ∷ suc n ∷ []) ≡ sets w (rowWords * n) (rowsOf (string o to q) k u n)
+rows-string w o to q kf kt u n k e e′ = rw (sym e, sym e′) (sym (sets-append (stringKind ∷ suc o ∷ to ∷ keyFrom k ∷ keyTo k ∷ u ∷ []) (0 ∷ suc n ∷ []) w (rowWords * n)))
 
 -- the same of a container, whose children's rows are put between the two
 pub rows-container : (w : Words) (c : Kind) (o from to q kf kt u n m : ℕ) (ts : Trees) (k : Key) → keyFrom k ≡ kf → keyTo k ≡ kt → m ≡ suc n + nodesAll ts
-    → sets (sets (sets w (8 * n) (kindNumber c ∷ from ∷ to ∷ kf ∷ kt ∷ u ∷ [])) (8 * suc n) (rowsAll ts (suc n) (suc n))) (8 * n + 6) (count ts ∷ m ∷ [])
-    ≡ sets w (8 * n) (rowsOf (container c o from to q ts) k u n)
+    → sets (sets (sets w (rowWords * n) (kindNumber c ∷ from ∷ to ∷ kf ∷ kt ∷ u ∷ [])) (rowWords * suc n) (rowsAll ts (suc n) (suc n))) (rowWords * n + 6) (count ts ∷ m ∷ [])
+    ≡ sets w (rowWords * n) (rowsOf (container c o from to q ts) k u n)
 rows-container w c o from to q kf kt u n m ts k e e′ h =
     let six : Words = kindNumber c ∷ from ∷ to ∷ keyFrom k ∷ keyTo k ∷ u ∷ [] in
     let two : Words = count ts ∷ (suc n + nodesAll ts) ∷ [] in
-    let place : 8 * suc n ≡ 8 * n + 8 = omega arith in
+    let place : rowWords * suc n ≡ rowWords * n + rowWords = omega arith in
     rw (h, sym e, sym e′)
-    (sets-before (rowsAll ts (suc n) (suc n)) two (sets w (8 * n) six) (8 * suc n) (8 * n + 6) (omega arith)
-    ∙ ap (λ (l : Words). sets l (8 * suc n) (rowsAll ts (suc n) (suc n))) (sym (sets-append six two w (8 * n)))
-    ∙ ap (λ (i : ℕ). sets (sets w (8 * n) (six ++ two)) i (rowsAll ts (suc n) (suc n))) place
-    ∙ sym (sets-append (six ++ two) (rowsAll ts (suc n) (suc n)) w (8 * n)))
+    (sets-before (rowsAll ts (suc n) (suc n)) two (sets w (rowWords * n) six) (rowWords * suc n) (rowWords * n + 6) (omega arith)
+    ∙ ap (λ (l : Words). sets l (rowWords * suc n) (rowsAll ts (suc n) (suc n))) (sym (sets-append six two w (rowWords * n)))
+    ∙ ap (λ (i : ℕ). sets (sets w (rowWords * n) (six ++ two)) i (rowsAll ts (suc n) (suc n))) place
+    ∙ sym (sets-append (six ++ two) (rowsAll ts (suc n) (suc n)) w (rowWords * n)))
 
 -- six stores, and two more, at places that are sums
 pub put-six : (l : Words) (i a b c d e f : ℕ) → set (set (set (set (set (set l i a) (i + 1) b) (i + 2) c) (i + 3) d) (i + 4) e) (i + 5) f ≡ sets l i (a ∷ b ∷ c ∷ d ∷ e ∷ f ∷ [])

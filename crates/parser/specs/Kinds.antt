@@ -2,9 +2,9 @@
 use Prim.Native.Nat.{ℕ}
 use mathlib.Core.Bool.{Bool, cond}
 use lib.Dec.{eqb}
-use Rattle.cel_text.specs.Byte.{stringByte}
 use Rattle.cel_text.specs.Tree.{Kind, array, object, function}
 use Rattle.cel_text.specs.Reading.{Stack, Step, State, refuse, syntax, quoted, begun, fresh, enter, enterString, limits}
+use Rattle.parser.specs.Set.{stringSet}
 
 abbrev pub kindOf : ℕ → Kind
 kindOf k = cond (eqb k 2) array (cond (eqb k 3) object function)
@@ -15,7 +15,7 @@ openerKind empty b = cond (eqb b 123) 3 (cond (eqb b 40) 4 (cond (eqb b 91) (con
 
 -- the step that an opener of this kind makes at place p, and the state that it leads to
 abbrev pub opens : ℕ → Stack → (from to p : ℕ) → Step
-opens kind K from to p = cond (eqb kind 0) (refuse syntax) (cond (eqb kind 1) (enterString stringByte limits K p) (enter stringByte limits (kindOf kind) K from to p))
+opens kind K from to p = cond (eqb kind 0) (refuse syntax) (cond (eqb kind 1) (enterString stringSet limits K p) (enter stringSet limits (kindOf kind) K from to p))
 
 abbrev pub openState : ℕ → Stack → (from to p : ℕ) → State
 openState kind K from to p = cond (eqb kind 1) (quoted K p) (begun K (fresh (kindOf kind) p from to))

@@ -4,14 +4,15 @@ use Prim.Native.Nat.{ℕ, zero, suc, _+_, _*_, _≤_, _<_}
 use mathlib.Core.Bool.{Bool, _&&_, _||_}
 use lib.ListN.{length, drop, getD}
 use lib.Dec.{leb}
-use Rattle.cel_text.specs.Byte.{Text, blank, identByte, stringByte, ascii, lead}
+use Rattle.cel_text.specs.Byte.{Text, blank, identByte, ascii, lead}
+use Rattle.parser.specs.Set.{stringSet}
 use Rattle.parser.specs.declared.scan.Class.{Class}
-use Rattle.parser.specs.declared.scan.Class.the-variants.{Blank, Ident, Content, Ascii}
+use Rattle.parser.specs.declared.scan.Class.the-variants.{Blank, Ident, StringByte, Ascii}
 
 abbrev pub classOf : Class → ℕ → Bool
 classOf Blank = blank
 classOf Ident = identByte
-classOf Content = stringByte
+classOf StringByte = stringSet
 classOf Ascii = ascii
 
 -- the two classes that identifiers and strings share

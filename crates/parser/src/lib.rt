@@ -5,10 +5,12 @@ pub mod scan;
 mod value;
 
 ghost use mathlib.Core.Path.{_≡_};
-ghost use Prim.Native.Nat.{_≤_, _<_};
-ghost use lib.ListN.{length, replicate};
-ghost use Rattle.cel_text.specs.Answer.{treeAnswer, treeTable};
-ghost use Rattle.parser.specs.Found.{told, Finds, Small, answerOf, uses, staleFrom};
+ghost use Prim.Native.Nat.{_≤_};
+ghost use lib.ListN.{length};
+ghost use Rattle.cel_text.specs.Reading.{maxDepth, maxNodes};
+ghost use Rattle.cel_text.specs.Table.{nodeWords, nodesLeft};
+ghost use Rattle.cel_text.specs.Answer.{maxText, refusedAt, treeAnswer, treeTable, treeOver};
+ghost use Rattle.parser.specs.Found.{told, Finds, Small, answerOf, acceptedWith, staleFrom};
 
 // A place in the text: how many bytes stand before it.
 pub struct Place(pub usize);
@@ -16,10 +18,16 @@ pub struct Place(pub usize);
 // A node's number.
 pub struct Node(pub usize);
 
-// What a reading step answers: where reading goes on, the number of the next node and the depth of what was read; or the
-// refusal's number and its place.
+// What was read: where reading goes on, the number of the next node and the depth.
+pub(crate) struct Read {
+    pub end: Place,
+    pub next: Node,
+    pub depth: usize,
+}
+
+// What a reading step answers: what it read, or the refusal's number and its place.
 pub(crate) enum Step {
-    Next(Place, Node, usize),
+    Next(Read),
     Refused(u32, Place),
 }
 
@@ -40,8 +48,8 @@ pub const MAX_DEPTH: usize = 32;
 
 pub const MAX_NODES: usize = 256;
 
-// The node table: the words that count, and those of a row.
-pub const NODE_WORDS: usize = 2048;
+// The node table: the words that count, a row for each node that may be; and those of a row.
+pub const NODE_WORDS: usize = ROW_WORDS * MAX_NODES;
 
 pub const ROW_WORDS: usize = 8;
 
@@ -54,7 +62,9 @@ pub const OBJECT: u32 = 3;
 
 pub const FUNCTION: u32 = 4;
 
-// Refusals of reading a tree.
+// An accepted text, and the refusals of reading a tree.
+pub const ACCEPTED: u32 = 0;
+
 pub const TABLE_TOO_SHORT: u32 = 1;
 
 pub const TEXT_TOO_LONG: u32 = 2;
@@ -67,42 +77,57 @@ pub const TOO_DEEP: u32 = 5;
 
 pub const TOO_MANY: u32 = 6;
 
-// Reads the text. A table of under 2,048 words is refused and left alone; of a longer one the first 2,048 words count.
+// Refusals of the mapping, which keep the tree.
+pub const UNEXPECTED_NODE_TYPE: u32 = 7;
+
+pub const UNEXPECTED_NODE_NAME: u32 = 8;
+
+pub const MISSING_FUNCTION_PARAMETER: u32 = 9;
+
+pub const MISSING_OBJECT_PROPERTY: u32 = 10;
+
+pub const EXTRANEOUS_VALIDATION_ARGS_PROPERTY: u32 = 11;
+
+pub const MISSING_VALIDATION_ARGS_PROPERTY: u32 = 12;
+
+pub const EXTRANEOUS_REQUEST_CERTIFICATION_PROPERTY: u32 = 13;
+
+pub const MISSING_REQUEST_CERTIFICATION_PROPERTY: u32 = 14;
+
+pub const EXTRANEOUS_RESPONSE_CERTIFICATION_PROPERTY: u32 = 15;
+
+pub const MISSING_RESPONSE_CERTIFICATION_PROPERTY: u32 = 16;
+
+// Reads the text. A table of under 2,048 words is refused and left alone; of a longer one the first 2,048 words count, and those
+// after the rows are 0.
 pub fn read_tree(text: &[u8], table: &mut [u32]) -> Answer
     ensures answer { λ r. ⌜ told r ≡ treeAnswer (length (now (table .entry))) (now (text .entry)) ⌝ }
     ensures table { λ r. ⌜ now (table .exit) ≡ treeTable (now (text .entry)) (now (table .entry)) ⌝ }
 {
     if table.len() < NODE_WORDS {
-        return answered(TABLE_TOO_SHORT, Place(0), Node(0), 0);
+        return refused(TABLE_TOO_SHORT, Place(0));
     }
-    fill(text, &mut table[..NODE_WORDS])
+    row::clear(&mut table[..NODE_WORDS], 0);
+    read_over(text, table)
 }
 
-// The same for a table of exactly the counted words.
-fn fill(text: &[u8], table: &mut [u32]) -> Answer
-    requires { ⌜ length (now table) ≡ 2048 ⌝ }
-    ensures { λ r. ⌜ told r ≡ treeAnswer 2048 (now (text .entry)) ⌝ }
-    ensures { λ r. ⌜ now (table .exit) ≡ treeTable (now (text .entry)) (now (table .entry)) ⌝ }
+// The same, but the words after an accepted tree's rows stay as lent.
+pub fn read_over(text: &[u8], table: &mut [u32]) -> Answer
+    ensures answer { λ r. ⌜ told r ≡ treeAnswer (length (now (table .entry))) (now (text .entry)) ⌝ }
+    ensures table { λ r. ⌜ now (table .exit) ≡ treeOver (now (text .entry)) (now (table .entry)) ⌝ }
 {
-    row::clear(table, 0);
-    read_zeroed(text, table)
-}
-
-// The same for a table of 2,048 words that are all 0, so that those after the rows are so already.
-pub fn read_zeroed(text: &[u8], table: &mut [u32]) -> Answer
-    requires { ⌜ now table ≡ replicate 2048 0 ⌝ }
-    ensures answer { λ r. ⌜ told r ≡ treeAnswer 2048 (now (text .entry)) ⌝ }
-    ensures table { λ r. ⌜ now (table .exit) ≡ treeTable (now (text .entry)) (now (table .entry)) ⌝ }
-{
-    let step = find(text, table);
+    if table.len() < NODE_WORDS {
+        return refused(TABLE_TOO_SHORT, Place(0));
+    }
+    let step = find(text, &mut table[..NODE_WORDS]);
     let answer = answer_of(step);
-    row::clear(table, stale(answer.refusal));
+    row::clear(&mut table[..NODE_WORDS], stale(answer.refusal));
     answer
 }
 
 // Refusals 2 and 3, then the value that the text begins with.
 fn find(text: &[u8], table: &mut [u32]) -> Step
-    requires { ⌜ length (now table) ≡ 2048 ⌝ }
+    requires { ⌜ length (now table) ≡ nodeWords ⌝ }
     ensures { λ r. ⌜ Finds (now (text .entry)) (now (table .entry)) (now (table .exit)) r ⌝ }
 {
     if MAX_TEXT < text.len() {
@@ -120,7 +145,7 @@ fn find(text: &[u8], table: &mut [u32]) -> Step
         MAX_DEPTH,
         Place(0),
         Place(0),
-        0,
+        row::Parent(0),
     )
 }
 
@@ -129,50 +154,49 @@ fn answer_of(step: Step) -> Answer
     ensures { λ r. ⌜ told r ≡ answerOf step ⌝ }
 {
     match step {
-        Step::Next(_, node, depth) => answered(0, Place(0), node, depth),
-        Step::Refused(refusal, place) => answered(refusal, place, Node(0), 0),
+        Step::Next(read) => accepted(read),
+        Step::Refused(refusal, place) => refused(refusal, place),
     }
 }
 
-// The fields that a refusal uses; the others are 0.
-fn answered(refusal: u32, place: Place, nodes: Node, depth: usize) -> Answer
-    requires { ⌜ (place .0 ≤ 8192) × (nodes .0 ≤ 256) × (depth ≤ 32) ⌝ }
-    ensures { λ r. ⌜ told r ≡ uses refusal (place .0) (nodes .0) depth ⌝ }
+// The answer about the tree that was read.
+fn accepted(read: Read) -> Answer
+    requires { ⌜ (read .next .0 ≤ maxNodes) × (read .depth ≤ maxDepth) ⌝ }
+    ensures { λ r. ⌜ told r ≡ acceptedWith read ⌝ }
 {
-    match refusal {
-        TABLE_TOO_SHORT => Answer {
-            refusal,
-            name: 0,
-            kind: 0,
-            place: 0,
-            nodes: 0,
-            depth: 0,
-        },
-        TEXT_TOO_LONG..=TOO_MANY => Answer {
-            refusal,
-            name: 0,
-            kind: 0,
-            place: place.0 as u32,
-            nodes: 0,
-            depth: 0,
-        },
-        _ => Answer {
-            refusal,
-            name: 0,
-            kind: 0,
-            place: 0,
-            nodes: nodes.0 as u32,
-            depth: depth as u32,
-        },
+    let nodes = read.next;
+    Answer {
+        refusal: ACCEPTED,
+        name: 0,
+        kind: 0,
+        place: 0,
+        nodes: nodes.0 as u32,
+        depth: read.depth as u32,
+    }
+}
+
+// The answer of a refusal without a tree.
+fn refused(refusal: u32, place: Place) -> Answer
+    requires { ⌜ place .0 ≤ maxText ⌝ }
+    ensures { λ r. ⌜ told r ≡ refusedAt refusal (place .0) ⌝ }
+{
+    Answer {
+        refusal,
+        name: 0,
+        kind: 0,
+        place: place.0 as u32,
+        nodes: 0,
+        depth: 0,
     }
 }
 
 // The first of the counted words in which a read with this refusal may have left what does not belong there.
 fn stale(refusal: u32) -> usize
-    ensures { λ r. ⌜ r ≡ staleFrom refusal ⌝ }
+    ensures { λ r. ⌜ r ≡ staleFrom (nodesLeft refusal) ⌝ }
 {
     match refusal {
-        TEXT_TOO_LONG..=TOO_MANY => 0,
-        _ => NODE_WORDS,
+        ACCEPTED | UNEXPECTED_NODE_TYPE..=MISSING_RESPONSE_CERTIFICATION_PROPERTY => NODE_WORDS,
+        TABLE_TOO_SHORT => NODE_WORDS,
+        _ => 0,
     }
 }

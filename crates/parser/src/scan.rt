@@ -2,7 +2,8 @@
 ghost use mathlib.Core.Path.{_≡_};
 ghost use Prim.Native.Nat.{ℕ, _+_, _*_, _^_, _≤_, _<_, max};
 ghost use lib.ListN.{length, getD};
-ghost use Rattle.cel_text.specs.Byte.{blank, identByte, stringByte, ascii};
+ghost use Rattle.cel_text.specs.Byte.{blank, identByte, ascii};
+ghost use Rattle.parser.specs.Set.{stringSet};
 ghost use Rattle.parser.specs.Run.{classOf, endOf, numberAt, BytesAt, Spaces, NamedAt, letter, digit};
 use crate::Place;
 
@@ -13,7 +14,7 @@ const EIGHT_SPACES: u64 = 0x2020202020202020;
 pub enum Class {
     Blank,
     Ident,
-    Content,
+    StringByte,
     Ascii,
 }
 
@@ -48,7 +49,7 @@ fn blanks(text: &[u8], at: Place) -> Place
 {
     let mut i = at.0;
     while i < text.len() {
-        if !is_blank(text[i]) {
+        if !has(Class::Blank, text[i]) {
             return Place(i);
         }
         let next = spaces(text, Place(i + 1));
@@ -64,7 +65,7 @@ fn spaces(text: &[u8], at: Place) -> Place
 {
     let mut i = at.0;
     while text.len() - i >= 8 {
-        let n = spaces_of_eight(text, i);
+        let n = spaces_of_eight(text, Place(i));
         if n < 8 {
             return Place(i + n as usize);
         }
@@ -74,20 +75,21 @@ fn spaces(text: &[u8], at: Place) -> Place
 }
 
 // So many of the eight bytes from here on, the first ones, are spaces: with eight spaces taken off, as many bytes are 0.
-fn spaces_of_eight(text: &[u8], i: usize) -> u32
-    requires { ⌜ i + 8 ≤ length (now text) ⌝ }
-    ensures { λ r. ⌜ Spaces (now (text .entry)) i (i + r) × (r ≤ 8) ⌝ }
+fn spaces_of_eight(text: &[u8], at: Place) -> u32
+    requires { ⌜ at .0 + 8 ≤ length (now text) ⌝ }
+    ensures { λ r. ⌜ Spaces (now (text .entry)) (at .0) (at .0 + r) × (r ≤ 8) ⌝ }
 {
-    let rest = std::num::wrapping_sub_u64(eight(text, i), EIGHT_SPACES);
+    let rest = std::num::wrapping_sub_u64(eight(text, at), EIGHT_SPACES);
     u64::trailing_zeros(rest) / 8
 }
 
 // The eight bytes from here on as one number, the first the lowest: one load.
-fn eight(text: &[u8], i: usize) -> u64
-    requires { ⌜ i + 8 ≤ length (now text) ⌝ }
-    ensures { λ r. ⌜ r ≡ numberAt (now (text .entry)) i 8 0 ⌝ }
-    ensures { λ r. ⌜ BytesAt (now (text .entry)) i 8 0 ⌝ }
+fn eight(text: &[u8], at: Place) -> u64
+    requires { ⌜ at .0 + 8 ≤ length (now text) ⌝ }
+    ensures { λ r. ⌜ r ≡ numberAt (now (text .entry)) (at .0) 8 0 ⌝ }
+    ensures { λ r. ⌜ BytesAt (now (text .entry)) (at .0) 8 0 ⌝ }
 {
+    let i = at.0;
     let high = joined(
         text[i + 4],
         joined(text[i + 5], joined(text[i + 6], joined(text[i + 7], 0))),
@@ -150,11 +152,19 @@ fn larger(a: u8, b: u8) -> u8
     if a < b { b } else { a }
 }
 
-pub(crate) fn ident(text: &[u8], at: Place) -> Name
+// The end of the identifier that begins here.
+fn ident(text: &[u8], at: Place) -> Place
+    ensures { λ r. ⌜ r .0 ≡ endOf identByte (now (text .entry)) (at .0) ⌝ }
+{
+    run_of(text, at, Class::Ident)
+}
+
+// An identifier and the blanks around it.
+pub(crate) fn trimmed_ident(text: &[u8], at: Place) -> Name
     ensures { λ r. ⌜ NamedAt (now (text .entry)) (at .0) (r .from .0) (r .to .0) (r .end .0) ⌝ }
 {
     let from = run_of(text, at, Class::Blank);
-    let to = run_of(text, from, Class::Ident);
+    let to = ident(text, from);
     let end = run_of(text, to, Class::Blank);
     Name { from, to, end }
 }
@@ -165,7 +175,7 @@ fn has(class: Class, b: u8) -> bool
     match class {
         Class::Blank => is_blank(b),
         Class::Ident => is_ident(b),
-        Class::Content => is_content(b),
+        Class::StringByte => is_string_byte(b),
         Class::Ascii => b < 128,
     }
 }
@@ -201,8 +211,8 @@ fn is_ident(b: u8) -> bool
     b == b'_'
 }
 
-fn is_content(b: u8) -> bool
-    ensures { λ r. ⌜ r ≡ stringByte b ⌝ }
+fn is_string_byte(b: u8) -> bool
+    ensures { λ r. ⌜ r ≡ stringSet b ⌝ }
 {
     if is_letter(b) {
         return true;

@@ -9,12 +9,12 @@ use lib.Dec.{T, ltb}
 use borrow.Author.Tests.{ltb-false, le-leb, lt-leb, ne-eqb}
 use Rattle.cel_text.specs.Byte.{Text, Run, over, byte, ascii, identByte, stringByte, alphanumeric, lead}
 use Rattle.cel_text.specs.Tree.{Kind, array, object, function, opener, closer}
+use Rattle.cel_text.specs.Abstract.{Ast, str, con, Asts, ε, _▪_∶_, label, separator, write, writeAll, GoodName, GoodKey, Writable, WritableAll}
 use Rattle.cel_text.specs.Laws.Class.{is-true}
 use Rattle.cel_policy.specs.Policy.{Policy, allStrings}
 use Rattle.cel_policy.specs.Printed.{Each, printed, Proper}
 use Rattle.cel_policy.specs.Laws.Shape.{Shape, skips, certifies, shape-of}
 use Rattle.cel_policy.specs.Laws.PrintedTree.{skipValue, emptyObject, certifiedValue, printed-skip, printed-certified, writable-empty, writable-skip, writable-certified}
-use Rattle.cel_policy.specs.Laws.Written.{Ast, str, con, Asts, ε, _▪_∶_, label, separator, write, writeAll, GoodName, GoodKey, Writable, WritableAll}
 
 -- a set of bytes that has none of 128 or more
 abbrev pub Low : (ℕ → Bool) → Type 0

@@ -12,10 +12,11 @@ use Rattle.cel_text.specs.Table.{nodeWords}
 use Rattle.cel_text.specs.Answer.{maxText}
 use Rattle.cel_text.specs.Laws.Class.{stringByte-plain}
 use Rattle.cel_policy.specs.Policy.{Policy, strings}
+use Rattle.cel_policy.specs.Meaning.{ReadAs}
 use Rattle.cel_policy.specs.Spans.{spanWords}
 use Rattle.cel_policy.specs.Printed.{printed, Printable}
 use Rattle.cel_policy.specs.Answers.{FoundPolicy, Printing, written, unprinted, sized, output, reprinted, findCanonical, oneNumber, canonicalAnswer, canonicalOutput}
-use Rattle.cel_policy.specs.Laws.RoundTrip.{ReadAs, round-trip}
+use Rattle.cel_policy.specs.Laws.RoundTrip.{round-trip}
 use Rattle.cel_policy.specs.Laws.Readable.{readable, readable-proper}
 use Rattle.cel_policy.specs.Laws.SpanTable.{print-read, refused-written, sized-written}
 use Rattle.cel_policy.specs.Laws.Refusals.{findPolicy-cases}

@@ -14,9 +14,12 @@ use Rattle.cel_text.specs.Tree.{Kind, array, object, function, Tree, string, co
 use Rattle.cel_text.specs.Table.{kindNumber}
 use Rattle.cel_text.specs.Reading.{maxNodes}
 use Rattle.cel_text.specs.Laws.Class.{by-test}
-use Rattle.cel_policy.specs.Names.{same, spelling, no-certification, certification, no-request-certification, request-certification, certified-request-headers, certified-query-parameters, response-certification, certified-response-headers, response-header-exclusions, headers}
+use Rattle.cel_policy.specs.Names.{same, spelling, no-certification, certification, no-request-certification, request-certification, certified-request-headers, certified-query-parameters}
+use Rattle.cel_policy.specs.Names.{response-certification, certified-response-headers, response-header-exclusions, headers}
 use Rattle.cel_policy.specs.Policy.{Policy}
-use Rattle.cel_policy.specs.Mapping.{Node, leaf, branch, Nodes, childless, _▹_∶_, nodeOf, nodesOf, Mapped, good, bad, andThen, Typed, Request, Only, first, second, exactlyOne, typed, lookup, present, element, elements, stringArray, firstOf, firstChild, headersOf, listOf, responseLists, responsePart, listAt, requestLists, requestOf, requestPart, listed, certified, certificationParts, certificationOf, validationArgs, mapping}
+use Rattle.cel_policy.specs.Mapping.{Node, leaf, branch, Nodes, childless, _▹_∶_, nodeOf, nodesOf, Mapped, good, bad, andThen, Typed, Request, Only, first, second, exactlyOne, typed, lookup}
+use Rattle.cel_policy.specs.Mapping.{present, element, elements, stringArray, firstOf, firstChild, headersOf, listOf, responseLists, responsePart, listAt, requestLists, requestOf}
+use Rattle.cel_policy.specs.Mapping.{requestPart, listed, certified, certificationParts, certificationOf, validationArgs, mapping}
 use Rattle.cel_policy.specs.Laws.Shape.{both-true, Shape, skips, certifies}
 
 -- ---- nodes

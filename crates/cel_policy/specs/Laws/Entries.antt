@@ -8,16 +8,18 @@ use mathlib.Core.List.{_++_}
 use lib.ListN.{length, take, drop, replicate, length-map}
 use lib.Seq.{take-append-seam}
 use borrow.Author.Tests.{le-ltb}
-use Rattle.cel_text.specs.Byte.{Text, Run, Plain, ascii, lead, stringByte}
+use Rattle.cel_text.specs.Byte.{Text, Run, Plain, ascii, stringByte}
 use Rattle.cel_text.specs.Tree.{Tree, nodes, depth}
 use Rattle.cel_text.specs.Table.{Words, nodeWords}
 use Rattle.cel_text.specs.Answer.{maxText}
 use Rattle.cel_text.specs.Laws.Class.{stringByte-plain}
+use Rattle.cel_text.specs.Laws.Find.{find-passes}
 use Rattle.cel_policy.specs.Policy.{Span, Policy, Counted, counted, strings}
+use Rattle.cel_policy.specs.Meaning.{ReadAs}
 use Rattle.cel_policy.specs.Spans.{spanWords, spanTable}
 use Rattle.cel_policy.specs.Printed.{printed, printedNodes, printedDepth, Proper}
 use Rattle.cel_policy.specs.Answers.{policy, findPolicy, policyAnswer, policySpans, placed, Printing, written, unprinted, sized, findPrint, printAnswered, output, printAnswer, printOutput}
-use Rattle.cel_policy.specs.Laws.RoundTrip.{ReadAs, round-trip}
+use Rattle.cel_policy.specs.Laws.RoundTrip.{round-trip}
 use Rattle.cel_policy.specs.Laws.Readable.{readable}
 use Rattle.cel_policy.specs.Laws.SpanTable.{counted-placed, placed-table, print-read, prints}
 use Rattle.cel_policy.specs.Laws.Refusals.{Gives, OfPrint, print-gives}
@@ -28,7 +30,7 @@ pub find-read :
     (S : ℕ → Bool) {x : Text} {p : Policy Text} {q n d : ℕ} (r : ReadAs S x p q n d)
     → length x ≤ maxText → Run ascii x → (w v : ℕ) → nodeWords ≤ w → spanWords ≤ v → findPolicy S w v x ≡ policy (r .tree) (r .places)
 find-read S {x} r short low w v hw hv =
-    rw (le-ltb v spanWords hv, le-ltb w nodeWords hw, le-ltb maxText (length x) short, le-ltb (lead ascii x) (length x) (omega (arith, lead-run low)), r .reads, r .maps)
+    rw (le-ltb v spanWords hv, find-passes S w x (record { enough = hw; short = short; low = omega (arith, lead-run low) }), r .reads, r .maps)
 
 -- its numbers are the policy's
 pub counted-strings : (x : Text) (p : Policy Span) → counted (strings x p) ≡ counted p
@@ -85,7 +87,7 @@ sized-fits t r short room = rw (le-ltb maxText (length t) short, le-ltb r (lengt
 
 -- what print has written to the output
 abbrev pub writtenText : Counted → Words → Text → (out : Text) → Text
-writtenText k ws x out = take (printAnswer k ws x (length out) .length) (printOutput k ws x out)
+writtenText k ws x out = take (printAnswer stringByte k ws x (length out) .length) (printOutput stringByte k ws x out)
 
 -- y, which begins with the written text t, is answered with the numbers k and the nodes and depth of their policy; the span table that is left
 -- gives the strings that were printed; from it t is printed again
@@ -107,8 +109,8 @@ pub record Demand3 (k : Counted) (ws : Words) (x t y : Text) (nodes spans : Word
   pub sameStrings : strings y (placed k (policySpans y nodes spans)) ≡ strings x (placed k ws)
   pub sameAnswer :
       (r : ℕ) → length t ≤ r
-      → printAnswer k (policySpans y nodes spans) y r ≡ record { refusal = 0; name = 0; kind = 0; place = 0; length = length t }
-  pub sameBytes : (out : Text) → length t ≤ length out → printOutput k (policySpans y nodes spans) y out ≡ t ++ drop (length t) out
+      → printAnswer stringByte k (policySpans y nodes spans) y r ≡ record { refusal = 0; name = 0; kind = 0; place = 0; length = length t }
+  pub sameBytes : (out : Text) → length t ≤ length out → printOutput stringByte k (policySpans y nodes spans) y out ≡ t ++ drop (length t) out
 
 module _
     (k : Counted)
@@ -139,7 +141,7 @@ module _
 
     -- demand 3: print answered a length; its text, and any bytes below 128 after it, are within 8,192 in all
     pub demand-3 :
-        printAnswer k ws x (length out) .refusal ≡ 0 → length (writtenText k ws x out ++ tail) ≤ maxText
+        printAnswer stringByte k ws x (length out) .refusal ≡ 0 → length (writtenText k ws x out ++ tail) ≤ maxText
         → Demand3 k ws x (writtenText k ws x out) (writtenText k ws x out ++ tail) nodes spans
     unfolding printAnswer printOutput
     demand-3 = at (findPrint stringByte k ws x (length out)) refl (print-gives stringByte k ws x (length out))

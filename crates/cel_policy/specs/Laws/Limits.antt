@@ -9,20 +9,21 @@ use lib.Seq.{take-length}
 use lib.Dec.{lit≤}
 use borrow.Author.Tests.{lt-ltb}
 use Rattle.cel_text.specs.Byte.{Text, _⧺_, Run, over, ascii, stringByte, bytes}
+use Rattle.cel_text.specs.Abstract.{Ast, str, write, sizeOf, heightOf, Writable}
 use Rattle.cel_text.specs.Table.{Words, nodeWords}
 use Rattle.cel_text.specs.Answer.{maxText}
 use Rattle.cel_text.specs.Laws.Class.{stringByte-plain}
 use Rattle.cel_policy.specs.Names.{spelling}
 use Rattle.cel_policy.specs.Policy.{Span, Policy, Counted, counted, responseOnly, inclusions}
 use Rattle.cel_policy.specs.Mapping.{first, certified}
+use Rattle.cel_policy.specs.Meaning.{ReadAs}
 use Rattle.cel_policy.specs.Spans.{spanWords, spanTable}
 use Rattle.cel_policy.specs.Printed.{nothing, each, printed, printedLength}
 use Rattle.cel_policy.specs.Answers.{policy, findPolicy, policySpans, printAnswered, policyAnswer, sized, unprinted, findPrint, printAnswer, canonicalAnswer, refusalBase}
 use Rattle.cel_policy.specs.Laws.Lengths.{length-printed}
-use Rattle.cel_policy.specs.Laws.Written.{Ast, str, write, sizeOf, heightOf, Writable}
 use Rattle.cel_policy.specs.Laws.Shape.{certifies}
 use Rattle.cel_policy.specs.Laws.PrintedTree.{certifiedValue, size-certified, height-certified, mapping-certified, writable-certified}
-use Rattle.cel_policy.specs.Laws.RoundTrip.{ReadAs, written-read}
+use Rattle.cel_policy.specs.Laws.RoundTrip.{written-read}
 use Rattle.cel_policy.specs.Laws.Readable.{Fits, Readable}
 use Rattle.cel_policy.specs.Laws.SpanTable.{print-read}
 use Rattle.cel_policy.specs.Laws.Refusals.{found-readable}
@@ -57,7 +58,7 @@ print-one s h r =
 -- "ResponseOnly, one string of 7,986 bytes: prints 8,192"
 pub prints-8192 :
     (s : Text) → Run stringByte s → length s ≡ 7986 → (r : ℕ) → 8192 ≤ r
-    → printAnswer oneAsked (0 ∷ 7986 ∷ []) s r ≡ record { refusal = 0; name = 0; kind = 0; place = 0; length = 8192 }
+    → printAnswer stringByte oneAsked (0 ∷ 7986 ∷ []) s r ≡ record { refusal = 0; name = 0; kind = 0; place = 0; length = 8192 }
 unfolding printAnswer
 prints-8192 s h n r room =
     let long : length (printed (oneHeader s)) ≡ 8192 = length-oneHeader s ∙ omega arith in
@@ -66,7 +67,7 @@ prints-8192 s h n r room =
 -- "7,987: 23"
 pub refuses-8193 :
     (s : Text) → Run stringByte s → length s ≡ 7987 → (r : ℕ)
-    → printAnswer oneAsked (0 ∷ 7987 ∷ []) s r ≡ record { refusal = 23; name = 0; kind = 0; place = 0; length = 0 }
+    → printAnswer stringByte oneAsked (0 ∷ 7987 ∷ []) s r ≡ record { refusal = 23; name = 0; kind = 0; place = 0; length = 0 }
 unfolding printAnswer
 refuses-8193 s h n r = rw (sym n, print-one s h r, sized-long (printed (oneHeader s)) r (omega (arith, length-oneHeader s)))
 
@@ -120,7 +121,7 @@ module _ (s : Text) (h : Run stringByte s) (n : length s ≡ 7991) where
     -- "and refused with 23 on printing", from the span table that the read left
     pub refuses-8197 :
         (r : ℕ)
-        → printAnswer oneAsked (policySpans (shorterText s) nodes spans) (shorterText s) r
+        → printAnswer stringByte oneAsked (policySpans (shorterText s) nodes spans) (shorterText s) r
         ≡ record { refusal = 23; name = 0; kind = 0; place = 0; length = 0 }
     unfolding printAnswer policySpans
     refuses-8197 r =

@@ -8,7 +8,9 @@ use mathlib.Core.List.{List, [], _∷_, _++_, map, map-append}
 use mathlib.Core.Option.{Option, none, some}
 use Rattle.cel_text.specs.Tree.{Kind, array, object, function}
 use Rattle.cel_policy.specs.Policy.{Policy, allStrings, overStrings}
-use Rattle.cel_policy.specs.Mapping.{Node, leaf, branch, Nodes, childless, _▹_∶_, Mapped, good, bad, andThen, Typed, Request, Only, first, second, exactlyOne, typed, lookup, present, element, elements, stringArray, firstOf, firstChild, headersOf, listOf, responseLists, responsePart, listAt, requestLists, requestOf, requestPart, certified, certificationParts, certificationOf, validationArgs, mapping}
+use Rattle.cel_policy.specs.Mapping.{Node, leaf, branch, Nodes, childless, _▹_∶_, Mapped, good, bad, andThen, Typed, Request, Only, first, second, exactlyOne, typed, lookup, present, element}
+use Rattle.cel_policy.specs.Mapping.{elements, stringArray, firstOf, firstChild, headersOf, listOf, responseLists, responsePart, listAt, requestLists, requestOf, requestPart, certified}
+use Rattle.cel_policy.specs.Mapping.{certificationParts, certificationOf, validationArgs, mapping}
 
 -- what a function on strings does to each thing that holds strings
 abbrev pub overMapped : {B C : Type 0} → (B → C) → Mapped B → Mapped C

@@ -9,13 +9,18 @@ use mathlib.Core.Option.{Option, none, some}
 use lib.ListN.{length, getD}
 use Rattle.cel_text.specs.Byte.{Text, Run, Identifier, identByte, alphanumeric, quote, comma, bytes}
 use Rattle.cel_text.specs.Tree.{array, object, function}
-use Rattle.cel_policy.specs.Names.{spellings, spelling, default-certification, ValidationArgs, no-certification, certification, Certification, no-request-certification, request-certification, RequestCertification, certified-request-headers, certified-query-parameters, response-certification, ResponseCertification, certified-response-headers, response-header-exclusions, ResponseHeaderList, headers}
+use Rattle.cel_text.specs.Abstract.{Ast, str, con, Asts, ε, _▪_∶_, write, writeAll, sizeOf, sizeAll, heightOf, heightAll, Writable, WritableAll}
+use Rattle.cel_policy.specs.Names.{spellings, spelling, default-certification, ValidationArgs, no-certification, certification, Certification, no-request-certification, request-certification}
+use Rattle.cel_policy.specs.Names.{RequestCertification, certified-request-headers, certified-query-parameters, response-certification, ResponseCertification, certified-response-headers}
+use Rattle.cel_policy.specs.Names.{response-header-exclusions, ResponseHeaderList, headers}
 use Rattle.cel_policy.specs.Policy.{allStrings}
-use Rattle.cel_policy.specs.Mapping.{good, Request, Only, first, second, listKind, listed, certified, skipped, typed, lookup, present, element, elements, stringArray, firstOf, firstChild, headersOf, listOf, responseLists, responsePart, listAt, requestLists, requestOf, requestPart, certificationParts, certificationOf, validationArgs, mapping}
+use Rattle.cel_policy.specs.Mapping.{good, Request, Only, first, second, listKind, listed, certified, skipped, typed, lookup, present, element, elements, stringArray, firstOf, firstChild}
+use Rattle.cel_policy.specs.Mapping.{headersOf, listOf, responseLists, responsePart, listAt, requestLists, requestOf, requestPart, certificationParts, certificationOf, validationArgs}
+use Rattle.cel_policy.specs.Mapping.{mapping}
 use Rattle.cel_policy.specs.Answers.{allOf}
 use Rattle.cel_policy.specs.Printed.{Each, nothing, each, joined, listText, listKey, skipText, requestText, responseText, responseOnlyText, fullText, printed}
 use Rattle.cel_policy.specs.Laws.Each.{each-split, each-of, each-getD, run-of}
-use Rattle.cel_policy.specs.Laws.Written.{Ast, str, con, Asts, ε, _▪_∶_, write, writeAll, sizeOf, sizeAll, heightOf, heightAll, seen, seenAll, Writable, WritableAll}
+use Rattle.cel_policy.specs.Laws.Written.{seen, seenAll}
 use Rattle.cel_policy.specs.Laws.Shape.{countOf}
 
 -- ---- the values

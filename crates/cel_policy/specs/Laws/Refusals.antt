@@ -1,60 +1,59 @@
--- Which refusals each entry gives. Assumes nothing.
-use mathlib.Core.Path.{_≡_, refl, sym, subst}
+-- Which refusals each entry gives, and how many nodes and what depth a read answers at most. Assumes nothing.
+use mathlib.Core.Path.{_≡_, refl, subst}
 use mathlib.Core.Logic.{_⊎_, inl, inr, ⊎-elim}
 use Prim.Native.Nat.{ℕ, _+_, _≤_, _<_}
 use native.Mathlib.Omega.{arith}
-use mathlib.Core.Bool.{Bool, true, true≢false}
+use mathlib.Core.Bool.{Bool}
 use mathlib.Core.Option.{Option, none, some}
 use lib.ListN.{length}
 use lib.Dec.{lit≤, ltb}
-use borrow.Author.Tests.{ltb-false}
+use borrow.Author.Tests.{ltb-true, ltb-false}
 use Rattle.cel_text.specs.Byte.{Text, ascii, lead, stringByte}
-use Rattle.cel_text.specs.Tree.{Tree}
+use Rattle.cel_text.specs.Tree.{Tree, nodes, depth}
 use Rattle.cel_text.specs.Table.{Words, nodeWords}
-use Rattle.cel_text.specs.Reading.{Fault, syntax, tooDeep, tooMany, Outcome, accepted, refused, read, limits}
-use Rattle.cel_text.specs.Answer.{maxText, faultNumber, Found, fault, found, findTree, answered, treeAnswer}
+use Rattle.cel_text.specs.Reading.{Fault, accepted, refused, read, limits, maxDepth, maxNodes}
+use Rattle.cel_text.specs.Answer.{maxText, faultNumber, Found, tree, fault, findTree, answered, treeAnswer}
 use Rattle.cel_text.specs.Laws.Class.{by-test}
+use Rattle.cel_text.specs.Laws.Find.{FindsTree, too-short, too-long, not-ascii, broken, whole, finds, answer-within}
+pub use Rattle.cel_text.specs.Laws.Find.{faultNumber-range}
 use Rattle.cel_policy.specs.Policy.{Span, Policy, Counted, stringCount, strings}
 use Rattle.cel_policy.specs.Mapping.{Node, Refusal, Mapped, good, bad, nodeOf, mapping}
 use Rattle.cel_policy.specs.Spans.{spanWords}
 use Rattle.cel_policy.specs.Printed.{printed, shaped}
-use Rattle.cel_policy.specs.Answers.{canonicalAnswer, oneNumber, refusalBase, placed, spanFits, bytesFit, firstFault, findCanonical, reprinted, FoundPolicy, policy, unmapped, unread, judged, mapTree, findPolicy, policyAnswered, policyAnswer, Printing, written, unprinted, unlessFaulty, sized, findPrint, printAnswered, printAnswer}
+use Rattle.cel_policy.specs.Answers.{canonicalAnswer, oneNumber, refusalBase, placed, spanFits, bytesFit, firstFault, findCanonical, reprinted, FoundPolicy, policy, unmapped, unread, judged}
+use Rattle.cel_policy.specs.Answers.{mapTree, findPolicy, policyAnswered, policyAnswer, Printing, written, unprinted, unlessFaulty, sized, findPrint, printAnswered, printAnswer, Judgement}
+use Rattle.cel_policy.specs.Answers.{clean, faulty, judgement, unlessJudged}
 use Rattle.cel_policy.specs.Laws.Counts.{between, OfMapping, meets-mapping}
 use Rattle.cel_policy.specs.Laws.Readable.{Readable, readable}
 use Rattle.cel_policy.specs.Laws.SpanTable.{print-read}
 
 -- ---- what holds in each case holds of what is found
 
-module _ (S : ℕ → Bool) (w v : ℕ) (x : Text) where
-  findTree-cases :
-      (P : Found → Type 0) → (ltb w nodeWords ≡ true → P (fault 1 0)) → P (fault 2 maxText) → ((p : ℕ) → P (fault 3 p))
-      → ((o : Outcome) → read S limits x ≡ o → P (found o)) → P (findTree S w x)
-  findTree-cases P one two three reading =
-      by-test P (ltb w nodeWords) _ _ one (λ a.
-      by-test P (ltb maxText (length x)) _ _ (λ b. two) (λ b.
-      by-test P (ltb (lead ascii x) (length x)) _ _ (λ c. three _) (λ c. reading (read S limits x) refl)))
+module _
+    (S : ℕ → Bool)
+    (w v : ℕ)
+    (x : Text)
+    (P : FoundPolicy → Type 0)
+    (one : (v < spanWords) ⊎ (w < nodeWords) → P (unread 1 0))
+    (two : P (unread 2 maxText))
+    (three : (p : ℕ) → P (unread 3 p))
+    (faulty : (f : Fault) (p : ℕ) → P (unread (faultNumber f) p))
+    (badly : (t : Tree) (r : Refusal) → mapping (nodeOf x t 0) ≡ bad r → P (unmapped t r))
+    (well : (t : Tree) (q : ℕ) (p : Policy Span) → read S limits x ≡ accepted t q → mapping (nodeOf x t 0) ≡ good p → P (policy t p))
+  where
+    judged-cases : (t : Tree) (q : ℕ) → read S limits x ≡ accepted t q → (m : Mapped (Policy Span)) → mapping (nodeOf x t 0) ≡ m → P (judged t m)
+    judged-cases t q e (good p) f = well t q p e f
+    judged-cases t q e (bad r) f = badly t r f
 
-  module _
-      (P : FoundPolicy → Type 0)
-      (one : (ltb v spanWords ≡ true) ⊎ (ltb w nodeWords ≡ true) → P (unread 1 0))
-      (two : P (unread 2 maxText))
-      (three : (p : ℕ) → P (unread 3 p))
-      (faulty : (f : Fault) (p : ℕ) → P (unread (faultNumber f) p))
-      (badly : (t : Tree) (r : Refusal) → mapping (nodeOf x t 0) ≡ bad r → P (unmapped t r))
-      (well : (t : Tree) (q : ℕ) (p : Policy Span) → read S limits x ≡ accepted t q → mapping (nodeOf x t 0) ≡ good p → P (policy t p))
-    where
-      judged-cases : (t : Tree) (q : ℕ) → read S limits x ≡ accepted t q → (m : Mapped (Policy Span)) → mapping (nodeOf x t 0) ≡ m → P (judged t m)
-      judged-cases t q e (good p) f = well t q p e f
-      judged-cases t q e (bad r) f = badly t r f
+    found-cases : {f : Found} → FindsTree S w x f → P (mapTree x f)
+    found-cases (too-short h) = one (inr h)
+    found-cases (too-long h l) = two
+    found-cases (not-ascii h l a) = three (lead ascii x)
+    found-cases (broken {f = f} {p = p} h e) = faulty f p
+    found-cases (whole {t = t} {q = q} h e) = judged-cases t q e (mapping (nodeOf x t 0)) refl
 
-      found-cases : (o : Outcome) → read S limits x ≡ o → P (mapTree x (found o))
-      found-cases (accepted t q) e = judged-cases t q e (mapping (nodeOf x t 0)) refl
-      found-cases (refused f p) e = faulty f p
-
-      pub findPolicy-cases : P (findPolicy S w v x)
-      findPolicy-cases =
-          by-test P (ltb v spanWords) _ _ (λ a. one (inl a))
-          (λ a. findTree-cases (λ (f : Found). P (mapTree x f)) (λ b. one (inr b)) two three found-cases)
+    pub findPolicy-cases : P (findPolicy S w v x)
+    findPolicy-cases = by-test P (ltb v spanWords) _ _ (λ a. one (inl (ltb-true v spanWords a))) (λ a. found-cases (finds S w x))
 
 -- a policy that is found was read, so it is printable but for its length
 pub found-readable : (S : ℕ → Bool) (w v : ℕ) (x : Text) (t : Tree) (p : Policy Span) → findPolicy S w v x ≡ policy t p → Readable S x p
@@ -75,23 +74,20 @@ sized-cases P t r a b c =
 
 -- ---- the refusals
 
-pub faultNumber-range : (f : Fault) → (4 ≤ faultNumber f) × (faultNumber f ≤ 6)
-faultNumber-range syntax = between tt tt
-faultNumber-range tooDeep = between tt tt
-faultNumber-range tooMany = between tt tt
-
 pub refusal-range : (n : Node Span) (r : Refusal) → mapping n ≡ bad r → OfMapping (r .refusal)
 refusal-range n r e = rw e at (meets-mapping n)
 
 -- read a tree
 pub tree-refusals : (w : ℕ) (x : Text) → treeAnswer w x .refusal ≤ 6
 unfolding treeAnswer
-tree-refusals w x =
-    findTree-cases stringByte w 0 x (λ (f : Found). answered f .refusal ≤ 6) (λ a. lit≤ tt) (lit≤ tt) (λ p. lit≤ tt) (λ o e. outcome o)
+tree-refusals w x = by (finds stringByte w x)
   where
-    outcome : (o : Outcome) → answered (found o) .refusal ≤ 6
-    outcome (accepted t q) = lit≤ tt
-    outcome (refused f p) = faultNumber-range f .1
+    by : {f : Found} → FindsTree stringByte w x f → answered f .refusal ≤ 6
+    by (too-short h) = lit≤ tt
+    by (too-long h l) = lit≤ tt
+    by (not-ascii h l a) = lit≤ tt
+    by (broken {f = f} h e) = faultNumber-range f .1
+    by (whole h e) = lit≤ tt
 
 -- read a policy
 pub policy-refusals : (w v : ℕ) (x : Text) → policyAnswer w v x .answer .refusal ≤ 16
@@ -105,21 +101,35 @@ abbrev pub Gives : (ℕ → Type 0) → Printing → Type 0
 Gives P (written t) = length t ≤ maxText
 Gives P (unprinted r p) = P r
 
-unless-gives : (P : ℕ → Type 0) (r : ℕ) (o : Option ℕ) (next : Printing) → P r → Gives P next → Gives P (unlessFaulty r o next)
-unless-gives P r none next h k = k
-unless-gives P r (some i) next h k = h
-
 abbrev pub OfPrint : ℕ → Type 0
 OfPrint n = (20 ≤ n) × (n ≤ 24)
+
+-- judging: 20 to 22
+abbrev Finds : (ℕ → Type 0) → Judgement → Type 0
+Finds P clean = Unit {0}
+Finds P (faulty r p) = P r
+
+unless-finds : (P : ℕ → Type 0) (r : ℕ) (o : Option ℕ) (next : Judgement) → P r → Finds P next → Finds P (unlessFaulty r o next)
+unless-finds P r none next h k = k
+unless-finds P r (some i) next h k = h
+
+judgement-finds : (S : ℕ → Bool) (k : Counted) (ws : Words) (x : Text) → Finds OfPrint (judgement S k ws x)
+unfolding judgement
+judgement-finds S k ws x =
+    by-test (Finds OfPrint) (shaped k) _ _
+    (λ e. unless-finds OfPrint 21 (firstFault (spanFits ws x) (stringCount k) 0) _ (between tt tt)
+    (unless-finds OfPrint 22 (firstFault (bytesFit S ws x) (stringCount k) 0) _ (between tt tt) tt))
+    (λ e. between tt tt)
+
+judged-gives : (P : ℕ → Type 0) (j : Judgement) (next : Printing) → Finds P j → Gives P next → Gives P (unlessJudged j next)
+judged-gives P clean next h k = k
+judged-gives P (faulty r p) next h k = h
 
 pub print-gives : (S : ℕ → Bool) (k : Counted) (ws : Words) (x : Text) (r : ℕ) → Gives OfPrint (findPrint S k ws x r)
 unfolding findPrint
 print-gives S k ws x r =
-    by-test (Gives OfPrint) (shaped k) _ _
-    (λ e. unless-gives OfPrint 21 (firstFault (spanFits ws x) (stringCount k) 0) _ (between tt tt)
-    (unless-gives OfPrint 22 (firstFault (bytesFit S ws x) (stringCount k) 0) _ (between tt tt)
-    (sized-cases (Gives OfPrint) (printed (strings x (placed k ws))) r (between tt tt) (between tt tt) (λ h. h))))
-    (λ e. between tt tt)
+    judged-gives OfPrint (judgement S k ws x) _ (judgement-finds S k ws x)
+    (sized-cases (Gives OfPrint) (printed (strings x (placed k ws))) r (between tt tt) (between tt tt) (λ h. h))
 
 -- canonicalise: 1, 20, 21 and 22 are not among them
 abbrev pub OfCanonical : ℕ → Type 0
@@ -129,7 +139,7 @@ pub canonical-gives : (S : ℕ → Bool) (x : Text) (r : ℕ) → Gives OfCanoni
 unfolding findCanonical
 canonical-gives S x r =
     findPolicy-cases S nodeWords spanWords x (λ (f : FoundPolicy). Gives OfCanonical (reprinted S f x r))
-    (λ a. absurd (⊎-elim (λ h. true≢false (sym h)) (λ h. true≢false (sym h)) a)) (inl (between tt tt)) (λ p. inl (between tt tt))
+    (λ a. absurd (⊎-elim (λ h. omega arith) (λ h. omega arith) a)) (inl (between tt tt)) (λ p. inl (between tt tt))
     (λ f p. inl (omega (arith, faultNumber-range f)))
     (λ t n e. inl (omega (arith, refusal-range (nodeOf x t 0) n e)))
     (λ t q p e m. rw (print-read S x p (readable S x t q p e m) _ r)
@@ -144,9 +154,9 @@ canonical-numbers x r n = at (findCanonical stringByte x r) (canonical-gives str
     at (written t) h e = absurd (omega arith)
     at (unprinted m p) h e = subst OfCanonical (omega arith) h
 
-print-numbers : (k : Counted) (ws : Words) (x : Text) (r n : ℕ) → 0 < n → printAnswer k ws x r .refusal ≡ n → OfPrint n
+print-numbers : (S : ℕ → Bool) (k : Counted) (ws : Words) (x : Text) (r n : ℕ) → 0 < n → printAnswer S k ws x r .refusal ≡ n → OfPrint n
 unfolding printAnswer
-print-numbers k ws x r n l = at (findPrint stringByte k ws x r) (print-gives stringByte k ws x r)
+print-numbers S k ws x r n l = at (findPrint S k ws x r) (print-gives S k ws x r)
   where
     at : (w : Printing) → Gives OfPrint w → printAnswered w .refusal ≡ n → OfPrint n
     at (written t) h e = absurd (omega arith)
@@ -167,7 +177,7 @@ canonical-never-20-to-22 x r n low high = canonical-never x r n (λ h. ⊎-elim 
 pub record Unseen (n : ℕ) : Type 0 where
   pub readTree : (w : ℕ) (x : Text) → treeAnswer w x .refusal ≡ n → ⊥
   pub readPolicy : (w v : ℕ) (x : Text) → policyAnswer w v x .answer .refusal ≡ n → ⊥
-  pub print : (k : Counted) (ws : Words) (x : Text) (r : ℕ) → printAnswer k ws x r .refusal ≡ n → ⊥
+  pub print : (S : ℕ → Bool) (k : Counted) (ws : Words) (x : Text) (r : ℕ) → printAnswer S k ws x r .refusal ≡ n → ⊥
   pub canonicalise : (x : Text) (r : ℕ) → canonicalAnswer x r ≡ refusalBase + n → ⊥
 
 pub unseen-17-18 : (n : ℕ) → 17 ≤ n → n ≤ 18 → Unseen n
@@ -175,6 +185,24 @@ unseen-17-18 n low high =
     record {
       readTree = λ w x e. omega (arith, tree-refusals w x);
       readPolicy = λ w v x e. omega (arith, policy-refusals w v x);
-      print = λ k ws x r e. let h = print-numbers k ws x r n (omega arith) e in omega arith;
+      print = λ S k ws x r e. let h = print-numbers S k ws x r n (omega arith) e in omega arith;
       canonicalise = λ x r. canonical-never x r n (λ h. ⊎-elim (λ a. omega arith) (λ a. omega arith) h);
     }
+
+-- ---- nodes and depth
+
+judged-sizes : (t : Tree) (m : Mapped (Policy Span)) → (policyAnswered (judged t m) .answer .nodes ≡ nodes t) × (policyAnswered (judged t m) .answer .depth ≡ depth t)
+judged-sizes t (good p) = (refl, refl)
+judged-sizes t (bad r) = (refl, refl)
+
+-- they are those of the tree, whether or not it is mapped
+sizes-found : (x : Text) (f : Found) → (policyAnswered (mapTree x f) .answer .nodes ≡ answered f .nodes) × (policyAnswered (mapTree x f) .answer .depth ≡ answered f .depth)
+sizes-found x (tree t q) = judged-sizes t (mapping (nodeOf x t 0))
+sizes-found x (fault r p) = (refl, refl)
+
+-- every answer is within the limits
+pub policy-within : (w v : ℕ) (x : Text) → (policyAnswer w v x .answer .nodes ≤ maxNodes) × (policyAnswer w v x .answer .depth ≤ maxDepth)
+unfolding policyAnswer treeAnswer
+policy-within w v x =
+    by-test (λ (f : FoundPolicy). (policyAnswered f .answer .nodes ≤ maxNodes) × (policyAnswered f .answer .depth ≤ maxDepth)) (ltb v spanWords) _ _
+    (λ a. omega arith) (λ a. omega (arith, answer-within w x, sizes-found x (findTree stringByte w x)))

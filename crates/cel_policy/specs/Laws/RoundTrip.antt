@@ -9,27 +9,20 @@ use mathlib.Core.Option.{Option, none, some}
 use lib.ListN.{length, length-append}
 use lib.Dec.{lit≤}
 use Rattle.cel_text.specs.Byte.{Text, Run, Plain}
-use Rattle.cel_text.specs.Tree.{Tree, nodes, depth}
-use Rattle.cel_text.specs.Reading.{accepted, read, limits, maxDepth, maxNodes}
+use Rattle.cel_text.specs.Tree.{Tree}
+use Rattle.cel_text.specs.Abstract.{Ast, write, sizeOf, heightOf, Writable}
+use Rattle.cel_text.specs.Reading.{maxDepth, maxNodes}
 use Rattle.cel_text.specs.Laws.Complete.{complete}
-use Rattle.cel_policy.specs.Policy.{Span, Policy, allStrings, content, strings}
+use Rattle.cel_policy.specs.Policy.{Policy, allStrings, content, strings}
 use Rattle.cel_policy.specs.Mapping.{good, Request, Only, certified, skipped, nodeOf, mapping}
 use Rattle.cel_policy.specs.Printed.{Each, printed, printedNodes, printedDepth, Proper}
+use Rattle.cel_policy.specs.Meaning.{ReadAs}
 use Rattle.cel_policy.specs.Laws.Natural.{unmap, mapping-natural}
 use Rattle.cel_policy.specs.Laws.Places.{here-all}
-use Rattle.cel_policy.specs.Laws.Written.{Ast, write, treeAt, sizeOf, heightOf, seen, Writable, value-written, seen-written, nodes-treeAt, depth-treeAt}
+use Rattle.cel_policy.specs.Laws.Written.{treeAt, seen, value-written, seen-written, nodes-treeAt, depth-treeAt}
 use Rattle.cel_policy.specs.Laws.Shape.{Shape, skips, certifies, countOf, maxOf, shape-of}
-use Rattle.cel_policy.specs.Laws.PrintedTree.{skipValue, emptyObject, certifiedValue, printed-skip, printed-certified, size-certified, height-certified, mapping-skip, mapping-certified, writable-empty, writable-skip, writable-certified}
-
--- the text x is read as the policy p: its first q bytes are a tree with n nodes and depth d
-pub record ReadAs (S : ℕ → Bool) (x : Text) (p : Policy Text) (q n d : ℕ) : Type 0 where
-  pub tree : Tree
-  pub places : Policy Span
-  pub reads : read S limits x ≡ accepted tree q
-  pub maps : mapping (nodeOf x tree 0) ≡ good places
-  pub same : strings x places ≡ p
-  pub hasNodes : nodes tree ≡ n
-  pub hasDepth : depth tree ≡ d
+use Rattle.cel_policy.specs.Laws.PrintedTree.{skipValue, emptyObject, certifiedValue, printed-skip, printed-certified, size-certified, height-certified, mapping-skip, mapping-certified}
+use Rattle.cel_policy.specs.Laws.PrintedTree.{writable-empty, writable-skip, writable-certified}
 
 -- a text is read as one policy at most
 pub readAs-unique : {S : ℕ → Bool} {x : Text} {p p′ : Policy Text} {q q′ n n′ d d′ : ℕ} → ReadAs S x p q n d → ReadAs S x p′ q′ n′ d′ → p ≡ p′

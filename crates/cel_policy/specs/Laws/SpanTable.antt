@@ -17,7 +17,7 @@ use Rattle.cel_text.specs.Laws.Class.{by-test, is-true}
 use Rattle.cel_policy.specs.Policy.{Span, Policy, Counted, counted, stringCount, allStrings, content, strings}
 use Rattle.cel_policy.specs.Spans.{spanRows, spanTable, spanAt, spansAt}
 use Rattle.cel_policy.specs.Printed.{Each, nothing, each, printed, shaped, Printable}
-use Rattle.cel_policy.specs.Answers.{placed, spanFits, allOf, bytesFit, firstFault, Printing, written, unprinted, unlessFaulty, sized, findPrint}
+use Rattle.cel_policy.specs.Answers.{placed, spanFits, allOf, bytesFit, firstFault, Judgement, clean, faulty, unlessFaulty, judgement, Printing, written, unprinted, unlessJudged, sized, findPrint}
 use Rattle.cel_policy.specs.Laws.Each.{each-map, run-of}
 use Rattle.cel_policy.specs.Laws.Natural.{allStrings-over}
 use Rattle.cel_policy.specs.Laws.Shape.{shape-right}
@@ -84,6 +84,35 @@ placed-table p ws =
       responseHeaders = response i;
     }
 
+-- ---- judging
+
+-- numbers, a span table and a text in which 20, 21 and 22 find nothing
+pub record Faultless (S : ℕ → Bool) (k : Counted) (ws : Words) (x : Text) : Type 0 where
+  pub shape : shaped k ≡ true
+  pub inside : firstFault (spanFits ws x) (stringCount k) 0 ≡ none
+  pub plain : firstFault (bytesFit S ws x) (stringCount k) 0 ≡ none
+
+pub faultless-clean : {S : ℕ → Bool} {k : Counted} {ws : Words} {x : Text} → Faultless S k ws x → judgement S k ws x ≡ clean
+unfolding judgement
+faultless-clean f = rw (f .shape, f .inside, f .plain)
+
+faulty-clean : {r p : ℕ} → faulty r p ≡ clean → ⊥
+faulty-clean e = let z : _≡_ {A = ℕ} 0 1 = cc in omega arith
+
+unless-clean : (refusal : ℕ) (o : Option ℕ) (next : Judgement) → unlessFaulty refusal o next ≡ clean → (o ≡ none) × (next ≡ clean)
+unless-clean refusal none next e = (refl, e)
+unless-clean refusal (some i) next e = absurd (faulty-clean e)
+
+pub clean-faultless : (S : ℕ → Bool) (k : Counted) (ws : Words) (x : Text) → judgement S k ws x ≡ clean → Faultless S k ws x
+unfolding judgement
+clean-faultless S k ws x =
+    by-test (λ (j : Judgement). j ≡ clean → Faultless S k ws x) (shaped k) _ _
+    (λ shape e.
+    let a = unless-clean 21 (firstFault (spanFits ws x) (stringCount k) 0) _ e in
+    let b = unless-clean 22 (firstFault (bytesFit S ws x) (stringCount k) 0) _ (a .1) in
+    record { shape = shape; inside = a .0; plain = b .0 })
+    (λ shape e. absurd (faulty-clean e))
+
 -- ---- where print finds no fault
 
 no-fault :
@@ -130,10 +159,13 @@ module _ (S : ℕ → Bool) (x : Text) where
         no-fault (bytesFit S (spanTable p ++ ws) x) (spanTable p ++ ws) (stringCount (counted p)) 0
         (λ j l f. bytesFit-fits (spanTable p ++ ws) j f) fitting
 
+    pub read-faultless : Faultless S (counted p) (spanTable p ++ ws) x
+    read-faultless = record { shape = read-shaped; inside = read-inside; plain = read-plain }
+
     -- so what was read is printed
     pub print-read : (r : ℕ) → findPrint S (counted p) (spanTable p ++ ws) x r ≡ sized (printed (strings x p)) r
     unfolding findPrint
-    print-read r = rw (read-shaped, read-inside, read-plain) (ap (λ (q : Policy Span). sized (printed (strings x q)) r) (placed-table p ws))
+    print-read r = rw (faultless-clean read-faultless) (ap (λ (q : Policy Span). sized (printed (strings x q)) r) (placed-table p ws))
 
 -- ---- what print accepts
 
@@ -153,9 +185,9 @@ refused-written e = let z : _≡_ {A = ℕ} 0 1 = cc in omega arith
 pub counted-placed : (k : Counted) (ws : Words) (x : Text) → counted (strings x (placed k ws)) ≡ k
 counted-placed k ws x = simp (length-map, length-spansAt)
 
-unless-none : {t : Text} (refusal : ℕ) (o : Option ℕ) (next : Printing) → unlessFaulty refusal o next ≡ written t → (o ≡ none) × (next ≡ written t)
-unless-none refusal none next e = (refl, e)
-unless-none refusal (some i) next e = absurd (refused-written e)
+unless-judged : {t : Text} (j : Judgement) (next : Printing) → unlessJudged j next ≡ written t → (j ≡ clean) × (next ≡ written t)
+unless-judged clean next e = (refl, e)
+unless-judged (faulty r p) next e = absurd (refused-written e)
 
 -- what is written has the right size
 pub sized-written : (r : ℕ) (t u : Text) → sized u r ≡ written t → (t ≡ u) × (length u ≤ maxText) × (length u ≤ r)
@@ -176,25 +208,22 @@ module _ (S : ℕ → Bool) (k : Counted) (ws : Words) (x : Text) (r : ℕ) (t :
 
   pub prints : findPrint S k ws x r ≡ written t → Prints
   unfolding findPrint
-  prints =
-      by-test (λ (w : Printing). w ≡ written t → Prints) (shaped k) _ _
-      (λ shape e.
-      let a = unless-none 21 (firstFault (spanFits ws x) (stringCount k) 0) _ e in
-      let b = unless-none 22 (firstFault (bytesFit S ws x) (stringCount k) 0) _ (a .1) in
-      let c = sized-written r t _ (b .1) in
+  prints e =
+      let a = unless-judged (judgement S k ws x) _ e in
+      let b : Faultless S k ws x = clean-faultless S k ws x (a .0) in
+      let c = sized-written r t _ (a .1) in
       record {
         text = c .0;
         printable =
             record {
               proper =
                   record {
-                    shape = rw (counted-placed k ws x) shape;
+                    shape = rw (counted-placed k ws x) (b .shape);
                     stringBytes =
                         rw (allStrings-over (content x) (placed k ws), allStrings-placed k ws)
-                        (each-map (content x) (spansAt ws (stringCount k) 0) (λ s h. run-of S (content x s) h) (fitted S ws x (stringCount k) 0 (b .0)));
+                        (each-map (content x) (spansAt ws (stringCount k) 0) (λ s h. run-of S (content x s) h) (fitted S ws x (stringCount k) 0 (b .plain)));
                   };
               short = c .1;
             };
         room = rw (c .0) (c .2);
-      })
-      (λ shape e. absurd (refused-written e))
+      }

@@ -1,50 +1,21 @@
--- Values without places, the text that each is written as, and the tree which that text stands for: it is a value of the grammar, and what the
--- mapping sees of it are the bytes that were written. Assumes nothing.
+-- The tree which the text of a tree without places stands for: it is a value of the grammar, and what the mapping sees of it are the bytes that
+-- were written. Assumes nothing.
 use mathlib.Core.Path.{_≡_, refl, sym, ap}
-use Prim.Native.Nat.{ℕ, suc, _+_, max}
+use Prim.Native.Nat.{ℕ, suc, _+_}
 use native.Mathlib.Nat.{add-zero}
 use mathlib.Core.Bool.{Bool}
 use mathlib.Core.List.{[], _∷_, _++_, append-nil}
 use lib.ListN.{length}
 use lib.Seq.{slice}
-use Rattle.cel_text.specs.Byte.{Text, Run, over, Identifier, quote, comma, colon}
-use Rattle.cel_text.specs.Tree.{Kind, array, object, function, opener, closer, Key, unkeyed, key, Tree, string, container, Trees, ∅, _▸_∶_, nodes, nodesAll, depth, depthAll}
-use Rattle.cel_text.specs.Grammar.{Named, nameless, with-name, Head, array-head, object-head, function-head, Label, in-array, in-function, in-object, Separator, next, Value, a-string, a-container, Children, no-child, one-more}
+use Rattle.cel_text.specs.Byte.{Text, over, Identifier, quote, colon}
+use Rattle.cel_text.specs.Tree.{Kind, array, object, function, opener, closer, Key, unkeyed, key, Tree, string, container, Trees, ∅, _▸_∶_, nodes, nodesAll, depth, depthAll, count}
+use Rattle.cel_text.specs.Abstract.{Ast, str, con, Asts, ε, _▪_∶_, label, separator, write, writeAll, sizeOf, sizeAll, heightOf, heightAll, countOf, GoodName, GoodKey, Writable, WritableAll}
+use Rattle.cel_text.specs.Grammar.{Named, nameless, with-name, Head, array-head, object-head, function-head, Label, in-array, in-function, in-object, Separator, next, Value, a-string, a-container}
+use Rattle.cel_text.specs.Grammar.{Children, no-child, one-more}
 use Rattle.cel_policy.specs.Policy.{content}
 use Rattle.cel_policy.specs.Mapping.{Node, leaf, branch, Nodes, childless, _▹_∶_, keyBytes, nodeOf, nodesOf}
 use Rattle.cel_policy.specs.Laws.Natural.{overNode, overNodes}
 use Rattle.cel_policy.specs.Laws.Places.{Here, here-left, here-right, here-next, here-slice}
-
--- a value without places: a string with its content; a container with its kind, its name and its children, each with its key, the last at hand
-infixl 60 _▪_∶_
-mutual
-  pub data Ast : Type 0 where
-    str : Text → Ast
-    con : Kind → (name : Text) → Asts → Ast
-
-  pub data Asts : Type 0 where
-    ε : Asts
-    _▪_∶_ : Asts → (key : Text) → Ast → Asts
-
--- what is written before a child
-abbrev pub label : Kind → (key : Text) → Text
-label array k = []
-label object k = k ++ colon ∷ []
-label function k = []
-
-abbrev pub separator : Asts → Text
-separator ε = []
-separator (more ▪ k ∶ a) = comma ∷ []
-
-abbrev mutual
-  -- the text, with no blanks
-  pub write : Ast → Text
-  write (str i) = quote ∷ (i ++ quote ∷ [])
-  write (con c name more) = name ++ opener c ∷ (writeAll more c ++ closer c ∷ [])
-
-  pub writeAll : Asts → Kind → Text
-  writeAll ε c = []
-  writeAll (more ▪ k ∶ a) c = writeAll more c ++ (separator more ++ (label c k ++ write a))
 
 -- the ends of a name and of a key that stand at place p
 abbrev pub nameFrom : Kind → (p : ℕ) → ℕ
@@ -78,25 +49,6 @@ abbrev mutual
       ∶ treeAt a (p + length (writeAll more c) + length (separator more) + length (label c k))
 
 abbrev mutual
-  -- how many nodes it has, and how deep it is
-  pub sizeOf : Ast → ℕ
-  sizeOf (str i) = 1
-  sizeOf (con c name more) = suc (sizeAll more)
-
-  pub sizeAll : Asts → ℕ
-  sizeAll ε = 0
-  sizeAll (more ▪ k ∶ a) = sizeAll more + sizeOf a
-
-abbrev mutual
-  pub heightOf : Ast → ℕ
-  heightOf (str i) = 0
-  heightOf (con c name more) = suc (heightAll more)
-
-  pub heightAll : Asts → ℕ
-  heightAll ε = 0
-  heightAll (more ▪ k ∶ a) = max (heightAll more) (heightOf a)
-
-abbrev mutual
   -- what the mapping sees of it, strings known by their bytes
   pub seen : Ast → (n : ℕ) → Node Text
   seen (str i) n = leaf n i
@@ -124,16 +76,9 @@ mutual
   depth-treesAt ε c p = refl
   depth-treesAt (more ▪ k ∶ a) c p = cc (depth-treesAt more c p, depth-treeAt a (p + length (writeAll more c) + length (separator more) + length (label c k)))
 
--- what a name and a key may be
-abbrev pub GoodName : Kind → Text → Type 0
-GoodName array name = name ≡ []
-GoodName object name = Identifier name
-GoodName function name = Identifier name
-
-abbrev pub GoodKey : Kind → Text → Type 0
-GoodKey array k = k ≡ []
-GoodKey object k = Identifier k
-GoodKey function k = k ≡ []
+pub count-treesAt : (more : Asts) (c : Kind) (p : ℕ) → count (treesAt more c p) ≡ countOf more
+count-treesAt ε c p = refl
+count-treesAt (more ▪ k ∶ a) c p = ap suc (count-treesAt more c p)
 
 named : (p : ℕ) (name : Text) → Identifier name → Named p name p (p + length name)
 named p [] r = let d : Named p [] (p + 0) (p + 0) = nameless over in simp add-zero (simp add-zero at d)
@@ -156,19 +101,9 @@ separatorAt ε c p = Separator.first
 separatorAt (more ▪ k ∶ a) c p = next over
 
 module _ (S : ℕ → Bool) where
-  abbrev mutual
-    -- what may be written: names and keys are identifiers, strings have string bytes
-    pub Writable : Ast → Type 0
-    Writable (str i) = Run S i
-    Writable (con c name more) = GoodName c name × WritableAll more c
-
-    pub WritableAll : Asts → Kind → Type 0
-    WritableAll ε c = Unit {0}
-    WritableAll (more ▪ k ∶ a) c = WritableAll more c × GoodKey c k × Writable a
-
   mutual
     -- what is written is a value of the grammar
-    pub value-written : (a : Ast) (p : ℕ) → Writable a → Value S p (write a) (treeAt a p)
+    pub value-written : (a : Ast) (p : ℕ) → Writable S a → Value S p (write a) (treeAt a p)
     value-written (str i) p w =
         let d : Value S p (write (str i)) (string (p + 0) (suc (p + 0) + length i) (suc (suc (p + 0) + length i + 0))) = a-string over w over in
         simp add-zero at d
@@ -179,7 +114,7 @@ module _ (S : ℕ → Bool) where
         = a-container (headAt c p name (w .0)) (children-written more c (suc (p + length name)) (w .1)) over in
         simp add-zero at d
 
-    children-written : (more : Asts) (c : Kind) (p : ℕ) → WritableAll more c → Children S c p (writeAll more c) (treesAt more c p)
+    children-written : (more : Asts) (c : Kind) (p : ℕ) → WritableAll S more c → Children S c p (writeAll more c) (treesAt more c p)
     children-written ε c p w = no-child
     children-written (more ▪ k ∶ a) c p w =
         one-more (children-written more c p (w .0)) (separatorAt more c p)

@@ -1,8 +1,7 @@
 -- Which trees any limits admit, and that document 01's admit a tree exactly if its depth is at most 32 and its nodes at most 256. Assumes nothing.
-use mathlib.Core.Path.{_≡_, refl, ap, subst}
-use Prim.Native.Nat.{ℕ, suc, _+_, _≤_, max}
-use mathlib.Core.Bool.{Bool, false}
-use lib.Dec.{eqb}
+use mathlib.Core.Path.{_≡_, refl}
+use Prim.Native.Nat.{ℕ, suc, _+_, _≤_}
+use mathlib.Core.Bool.{false}
 use native.Mathlib.Omega.{arith}
 use borrow.Author.Tests.{ne-eqb, eqb-false}
 use Rattle.cel_text.specs.Tree.{Tree, string, container, Trees, ∅, _▸_∶_, nodes, nodesAll, depth, depthAll}

@@ -4,7 +4,7 @@ use Prim.Native.Nat.{ℕ, zero, suc}
 use mathlib.Core.Bool.{Bool, true, false, cond, _||_}
 use mathlib.Core.List.{[], _∷_}
 use lib.Dec.{T, eqb, eqb→eq}
-use Rattle.cel_text.specs.Byte.{Text, bytes, blank, alphanumeric, identByte, stringByte, comma, Plain}
+use Rattle.cel_text.specs.Byte.{Text, bytes, blank, identByte, stringByte, comma, Plain}
 use Rattle.cel_text.specs.Tree.{Kind, array, object, function, closer}
 
 -- a test's value from a proof of it, and from a refutation

@@ -2,16 +2,18 @@
 use mathlib.Core.Path.{_≡_, refl, sym, ap, subst, _∙_}
 use Prim.Native.Nat.{ℕ, suc, _+_, _≤_}
 use native.Mathlib.Nat.{add-zero, suc-add}
-use mathlib.Core.Bool.{Bool, true, false}
+use mathlib.Core.Bool.{Bool, false}
 use mathlib.Core.List.{[], _∷_, _++_, append-assoc}
 use lib.ListN.{length, take, length-append}
 use lib.Seq.{take-append-seam}
 use lib.Dec.{T, eqb, eqb→eq}
 use native.Mathlib.Omega.{arith}
-use Rattle.cel_text.specs.Byte.{Text, _⧺_, blank, alphanumeric, identByte, Run, over, byte, Blanks, quote, comma, colon, Plain}
+use Rattle.cel_text.specs.Byte.{Text, _⧺_, blank, identByte, Run, over, byte, Blanks, quote, comma, colon, Plain}
 use Rattle.cel_text.specs.Tree.{Kind, array, object, function, opener, closer, Key, unkeyed, key, Tree, string, container, Trees, ∅, _▸_∶_, nodes, nodesAll, depth}
-use Rattle.cel_text.specs.Grammar.{Named, nameless, with-name, Head, array-head, object-head, function-head, Label, in-array, in-function, in-object, Separator, first, next, Value, a-string, a-container, Children, no-child, one-more}
-use Rattle.cel_text.specs.Reading.{Limits, Stack, root, inside, level, opened, Frame, Due, value, entry, State, before, quoted, dropping, begun, after, Step, go, step, start, past, bare, unquote, enter, enterString, whole, child, closed, fresh, withKey, withChild, Outcome, accepted, follow, run, read, limits, unlimited, maxDepth, maxNodes}
+use Rattle.cel_text.specs.Grammar.{Named, nameless, with-name, Head, array-head, object-head, function-head, Label, in-array, in-function, in-object, Separator, first, next, Value, a-string}
+use Rattle.cel_text.specs.Grammar.{a-container, no-child, one-more}
+use Rattle.cel_text.specs.Reading.{Limits, Stack, root, inside, level, opened, Frame, Due, value, entry, State, before, quoted, dropping, begun, after, Step, go, step, start, past, bare}
+use Rattle.cel_text.specs.Reading.{unquote, enter, enterString, whole, child, closed, fresh, withKey, accepted, follow, run, read, limits, unlimited, maxDepth, maxNodes}
 use Rattle.cel_text.specs.Laws.Class.{is-true, is-false, blank-ident, closer-blank, closer-comma, closer-closer}
 use Rattle.cel_text.specs.Laws.Admit.{Admits, AdmitsAll, fits-admits, unlimited-admits}
 use Rattle.cel_text.specs.Laws.Run.{resume, whole-resumes, before-blanks, quoted-strings, dropping-blanks, begun-blanks, after-blanks, after-name}
@@ -41,13 +43,14 @@ named-starts (with-name {b = b} {c = c} bs (byte {b = i} {bs = is} t ts) cs) y r
     record { blanks = b; head = i; tail = is ++ (c ++ y ∷ r); split = simp append-assoc; areBlanks = bs; noBlank = blank-ident i t; noCloser = ident-closer i t }
 
 open-starts : (c : Kind) {p : ℕ} {h : Text} {from to : ℕ} → Head c p h from to → (r : Text) → Starts (h ++ opener c ∷ r)
-open-starts array (array-head {b = b} bs) r = record { blanks = b; head = opener array; tail = r; split = refl; areBlanks = bs; noBlank = unfold blank in refl; noCloser = λ c. elim c [ array ↦ refl | object ↦ refl | function ↦ refl ] }
+open-starts array (array-head bs) r = named-starts {p = 0} (nameless bs) (opener array) r (unfold blank in refl) (λ c. elim c [ array ↦ refl | object ↦ refl | function ↦ refl ])
 open-starts object (object-head n) r = named-starts n (opener object) r (unfold blank in refl) (λ c. elim c [ array ↦ refl | object ↦ refl | function ↦ refl ])
 open-starts function (function-head n) r = named-starts n (opener function) r (unfold blank in refl) (λ c. elim c [ array ↦ refl | object ↦ refl | function ↦ refl ])
 
 value-starts : (S : ℕ → Bool) {p : ℕ} {v : Text} {t : Tree} → Value S p v t → (r : Text) → Starts (v ++ r)
 value-starts S (a-string {b = b} {i = i} {c = c} bs is cs) r =
-    record { blanks = b; head = quote; tail = i ++ (c ++ quote ∷ r); split = simp append-assoc; areBlanks = bs; noBlank = unfold blank in refl; noCloser = λ c. elim c [ array ↦ refl | object ↦ refl | function ↦ refl ] }
+    subst Starts (simp append-assoc)
+    (named-starts {p = 0} (nameless bs) quote (i ++ (c ++ quote ∷ r)) (unfold blank in refl) (λ c. elim c [ array ↦ refl | object ↦ refl | function ↦ refl ]))
 value-starts S (a-container {c = c} {h = h} {v = v} {b = b} hd ch bs) r =
     subst Starts (simp append-assoc) (open-starts c hd (v ++ (b ++ closer c ∷ r)))
 

@@ -1,20 +1,21 @@
 -- Where the limits refuse: at the opener of the first node that they do not admit, and never where the syntax does. Assumes nothing.
 use mathlib.Core.Path.{_≡_, refl, sym, ap, subst, subst₂, _∙_}
 use mathlib.Core.Logic.{_⊎_, inl, inr, ⊎-elim, _↔_}
-use mathlib.Core.Option.{Option, none, some}
-use Prim.Native.Nat.{ℕ, zero, suc, _+_, _-_, _≤_, _<_}
-use native.Mathlib.Nat.{add-zero, zero-add, suc-inj}
+use mathlib.Core.Option.{some}
+use Prim.Native.Nat.{ℕ, zero, suc, _+_, _≤_, _<_}
+use native.Mathlib.Nat.{add-zero, zero-add}
 use native.Mathlib.Decide.{decLe}
 use mathlib.Core.Bool.{Bool, true, false}
 use mathlib.Core.List.{List, [], _∷_, _++_, append-assoc, append-nil}
 use lib.ListN.{length, take, drop, getElem?, length-append, take-append-drop}
-use lib.Seq.{take-append-le, take-append-add, length-take-le}
+use lib.Seq.{take-append-le, take-append-add, take-append-seam, take-take, length-take-le}
 use native.Mathlib.Omega.{arith}
 use borrow.Author.Tests.{eqb-true, eqb-false}
 use Rattle.cel_text.specs.Byte.{Text, _⧺_, Plain}
 use Rattle.cel_text.specs.Tree.{Tree, Opening, openings, OpensAs}
-use Rattle.cel_text.specs.Grammar.{Legal, Viable, Longest, Always}
-use Rattle.cel_text.specs.Reading.{Limits, unlimited, limits, maxDepth, maxNodes, root, value, State, before, Fault, syntax, tooDeep, tooMany, Step, go, done, refuse, step, Outcome, accepted, refused, run, read}
+use Rattle.cel_text.specs.Grammar.{Legal, Viable, Always}
+use Rattle.cel_text.specs.Reading.{Limits, unlimited, limits, maxDepth, maxNodes, root, value, State, before, Fault, syntax, tooDeep, tooMany, Step, go, done, refuse, step, Outcome, accepted}
+use Rattle.cel_text.specs.Reading.{refused, run, read}
 use Rattle.cel_text.specs.Laws.Trace.{Trace, here, there, traced, trace-snoc, trace-take, Accepts, Refuses, Stops, Ends, ends}
 use Rattle.cel_text.specs.Laws.Move.{at, openedBy, Shallow, Moves, quiet, opens, finishes, stops, deep, many, step-moves}
 use Rattle.cel_text.specs.Laws.Sound.{Reads, sound}
@@ -121,6 +122,21 @@ module _ (S : ℕ → Bool) where
             later = (omega arith, from-earlier (suc p) p (omega arith) (g .more) (g .later));
           }
 
+  -- every opening stands below p
+  abbrev Below : ℕ → List Opening → Type 0
+  Below p os = (n : ℕ) (o : Opening) → getElem? os n ≡ some o → o .place < p
+
+  trace-below : {st st′ : State} {p : ℕ} {v : Text} → Trace S unlimited st p v st′ → Below p (openedBy st) → Below (p + length v) (openedBy st′)
+  trace-below {p = p} here f = rw add-zero f
+  trace-below {st = st} {st′ = st″} {p = p} (there {st′ = st′} {b = b} {v = v} e tr) f =
+      subst (λ (n : ℕ). Below n (openedBy st″)) (omega arith) (trace-below tr (by (step-grows unlimited st′ (step-moves S unlimited st p b) e)))
+    where
+      by : (openedBy st′ ≡ openedBy st) ⊎ ((d : ℕ) × (openedBy st′ ≡ openedBy st ++ at p d ∷ [])) → Below (suc p) (openedBy st′)
+      by (inl q) = subst (Below (suc p)) (sym q) (λ n o h. omega (arith, f n o h))
+      by (inr q) = subst (Below (suc p)) (sym (q .1)) (λ n o h.
+          ⊎-elim (λ g. omega (arith, f n o g)) (λ g. let here : p ≡ o .place = ap (λ (u : Opening). u .place) (g .1) in omega arith)
+          (getElem-last (openedBy st) (at p (q .0)) n o h))
+
   -- the openings of an accepted tree begin with those made on the way
   accepted-grows : (st : State) (p : ℕ) (x : Text) (t : Tree) (q : ℕ) → run S unlimited st p x ≡ accepted t q → (more : List Opening) × (openings 1 t ≡ openedBy st ++ more) × From p more
   accepted-grows st p x t q e =
@@ -153,11 +169,12 @@ module _ (S : ℕ → Bool) where
         let g = accepted-grows st n w (l .tree) q r in
         (g .0, g .1, subst (λ (m : ℕ). From m (g .0)) (zero-add (length v)) (g .2))
 
-    -- j is in the text, the bytes up to it and it are viable, and in every completion it opens node n, at depth d
+    -- j is in the text, the bytes up to it and it are viable, and in every completion it opens node n, at depth d, and nothing at another depth
     record OpenedAt (x : Text) (n j d : ℕ) : Type 0 where
       inText : j < length x
       viable : Viable S (take (suc j) x)
       always : Always S (λ t. OpensAs t n j d) (take (suc j) x)
+      only : Always S (λ t. (m e : ℕ) → OpensAs t m j e → e ≡ d) (take (suc j) x)
 
     front : (v : Text) (b : ℕ) (bs : Text) → take (suc (length v)) (v ++ b ∷ bs) ≡ v ++ b ∷ []
     front v b bs = ap (λ (n : ℕ). take n (v ++ b ∷ bs)) (let e : suc (length v) ≡ length v + 1 = omega arith in e) ∙ take-append-add v (b ∷ bs) 1
@@ -165,16 +182,40 @@ module _ (S : ℕ → Bool) where
     opened-at : {v : Text} {st : State} → Trace S unlimited (before (value root)) 0 v st → (b : ℕ) (bs : Text) (st′ : State) (d : ℕ)
         → step S unlimited st (0 + length v) b ≡ go st′ → openedBy st′ ≡ openedBy st ++ at (0 + length v) d ∷ [] → OpenedAt (v ++ b ∷ bs) (length (openedBy st)) (length v) d
     opened-at {v = v} {st = st} tr b bs st′ d e o =
-        let tr′ : Trace S unlimited (before (value root)) 0 (v ++ b ∷ []) st′ = trace-snoc S unlimited tr b e in
-        let os : List Opening = openedBy st in
-        let o′ : openedBy st′ ≡ os ++ at (length v) d ∷ [] = o ∙ ap (λ (n : ℕ). os ++ at n d ∷ []) (zero-add (length v)) in
         record {
           inText = simp length-append (omega arith);
           viable = rw front (trace-viable S P tr′);
-          always = λ w l.
-              let g = completed tr′ (take (suc (length v)) (v ++ b ∷ bs)) (front v b bs) w l in
-              ap (λ (us : List Opening). getElem? us (length os)) (g .1 ∙ ap (λ (us : List Opening). us ++ g .0) o′) ∙ getElem-seam os (at (length v) d) (g .0);
+          always = λ w l. let g = opened w l in ap (λ (us : List Opening). getElem? us (length os)) (g .1) ∙ getElem-seam os (at (length v) d) (g .0);
+          only = λ w l m e h.
+              let g = opened w l in
+              let here : Opening = at (length v) e in
+              by m e (g .0) (g .2) (getElem-append (os ++ at (length v) d ∷ []) (g .0) m here (ap (λ (us : List Opening). getElem? us m) (sym (g .1)) ∙ h));
         }
+      where
+        os : List Opening
+        os = openedBy st
+
+        tr′ : Trace S unlimited (before (value root)) 0 (v ++ b ∷ []) st′
+        tr′ = trace-snoc S unlimited tr b e
+
+        o′ : openedBy st′ ≡ os ++ at (length v) d ∷ []
+        o′ = o ∙ ap (λ (n : ℕ). os ++ at n d ∷ []) (zero-add (length v))
+
+        -- what a completion opens: what was open, the node at this byte, and more behind it
+        opened : (w : Text) (l : Legal S (take (suc (length v)) (v ++ b ∷ bs) ⧺ w))
+            → (more : List Opening) × (openings 1 (l .tree) ≡ (os ++ at (length v) d ∷ []) ++ more) × From (suc (length v)) more
+        opened w l =
+            let g = completed tr′ (take (suc (length v)) (v ++ b ∷ bs)) (front v b bs) w l in
+            (g .0, g .1 ∙ ap (λ (us : List Opening). us ++ g .0) o′, subst (λ (n : ℕ). From n (g .0)) (simp length-append (omega arith)) (g .2))
+
+        last : (m e : ℕ) → (getElem? os m ≡ some (at (length v) e)) ⊎ ((m ≡ length os) × (at (length v) d ≡ at (length v) e)) → e ≡ d
+        last m e (inl h) = absurd (let low : length v < 0 + length v = trace-below tr (λ n u q. clash cc) m (at (length v) e) h in omega arith)
+        last m e (inr h) = sym (ap (λ (u : Opening). u .depth) (h .1))
+
+        by : (m e : ℕ) (more : List Opening) → From (suc (length v)) more
+            → (getElem? (os ++ at (length v) d ∷ []) m ≡ some (at (length v) e)) ⊎ ((k : ℕ) × (getElem? more k ≡ some (at (length v) e))) → e ≡ d
+        by m e more f (inl h) = last m e (getElem-last os (at (length v) d) m (at (length v) e) h)
+        by m e more f (inr h) = absurd (from-later (suc (length v)) (length v) e (omega arith) more (h .0) f (h .1))
 
     refuses : (L : Limits) (x : Text) (f : Fault) (j : ℕ) → read S L x ≡ refused f j → Refuses S L (before (value root)) 0 x f j
     refuses L x f j e = subst (Ends S L (before (value root)) 0 x) e (ends S L (before (value root)) 0 x)
@@ -189,11 +230,11 @@ module _ (S : ℕ → Bool) where
           (length (openedBy st), m .1, opened-at (trace-unlimited S L tr) b bs (m .0) (suc (m .1)) (m .2) (m .3), m .4)
 
       many-stop : {v : Text} {st : State} → Trace S L (before (value root)) 0 v st → (y : Text) → Stops S L st (0 + length v) y tooMany
-          → (n : ℕ) × (d : ℕ) × OpenedAt (v ++ y) n (length v) d × (L .many n ≡ true)
+          → (n : ℕ) × (d : ℕ) × OpenedAt (v ++ y) n (length v) d × Shallow L d × (L .many n ≡ true)
       many-stop tr [] e = clash cc
       many-stop {v = v} {st = st} tr (b ∷ bs) e =
           let m = step-many L (step-moves S L st (0 + length v) b) e in
-          (length (openedBy st), m .1, opened-at (trace-unlimited S L tr) b bs (m .0) (m .1) (m .2) (m .3), m .5)
+          (length (openedBy st), m .1, opened-at (trace-unlimited S L tr) b bs (m .0) (m .1) (m .2) (m .3), m .4, m .5)
 
       -- an opening that the limits do not admit is not made, nor is a place after it reached
       fine-start : Fine L []
@@ -208,95 +249,41 @@ module _ (S : ℕ → Bool) where
           let o′ : getElem? (os ++ g .0) n ≡ some (at j d) = ap (λ (us : List Opening). getElem? us n) (sym (g .1)) ∙ o in
           ⊎-elim (λ q. trace-fine L tr fine-start n (at j d) q) (λ q. absurd (from-later (length v) j d h (g .0) (q .0) (g .2) (q .1))) (getElem-append os (g .0) n (at j d) o′)
 
-      many-shallow : {v : Text} {st : State} → Trace S L (before (value root)) 0 v st → (y : Text) → Stops S L st (0 + length v) y tooMany
-          → (w : Text) (l : Legal S (take (suc (length v)) (v ++ y) ⧺ w)) (n d : ℕ) → OpensAs (l .tree) n (length v) d → Shallow L d
-      many-shallow tr [] e w l n d o = clash cc
-      many-shallow {v = v} {st = st} tr (b ∷ bs) e w l n d o =
-          let m = step-many L (step-moves S L st (0 + length v) b) e in
-          let os : List Opening = openedBy st in
-          let last : Opening = at (0 + length v) (m .1) in
-          let g = completed (trace-snoc S unlimited (trace-unlimited S L tr) b (m .2)) (take (suc (length v)) (v ++ b ∷ bs)) (front v b bs) w l in
-          let o′ : getElem? (os ++ last ∷ [] ++ g .0) n ≡ some (at (length v) d) = ap (λ (us : List Opening). getElem? us n) (sym (g .1 ∙ ap (λ (us : List Opening). us ++ g .0) (m .3))) ∙ o in
-          let later : length v < length (v ++ b ∷ []) = simp length-append (omega arith) in
-          ⊎-elim
-          (λ q. ⊎-elim (λ q′. trace-fine L tr fine-start n (at (length v) d) q′ .0) (λ q′. subst (λ (u : Opening). Shallow L (u .depth)) (q′ .1) (m .4)) (getElem-last os last n (at (length v) d) q))
-          (λ q. absurd (from-later (length (v ++ b ∷ [])) (length v) d later (g .0) (q .0) (g .2) (q .1)))
-          (getElem-append (os ++ last ∷ []) (g .0) n (at (length v) d) o′)
-
 -- ---- T3′
 
--- `Falls S L B x j`: the text goes on viably with its byte at j; in every completion a node that B marks, by its number and depth, opens there; and no lower place is refused
-pub record Falls (S : ℕ → Bool) (L : Limits) (B : (n d : ℕ) → Type 0) (x : Text) (j : ℕ) : Type 0 where
+-- "container opened at depth 33"; "257th node opened", numbers counting from 0, where "5 comes before 6"; what the limits do not admit
+abbrev pub Depth33 : (n d : ℕ) → Type 0
+Depth33 n d = d ≡ suc maxDepth
+
+abbrev pub Node257 : (n d : ℕ) → Type 0
+Node257 n d = (n ≡ maxNodes) × (d ≡ suc maxDepth → ⊥)
+
+abbrev pub Barred : (n d : ℕ) → Type 0
+Barred n d = (d ≡ suc maxDepth) ⊎ (n ≡ maxNodes)
+
+-- in no completion of the bytes before j does such a node open below j
+abbrev pub Clear : (S : ℕ → Bool) (x : Text) (j : ℕ) → Type 0
+Clear S x j = Always S (λ t. (n i d : ℕ) → OpensAs t n i d → i < j → Barred n d → ⊥) (take j x)
+
+-- `Falls S B x j`: the text goes on viably with its byte at j; in every completion a node that B marks, by its number and depth, opens there; and none that the limits do not admit opens below
+pub record Falls (S : ℕ → Bool) (B : (n d : ℕ) → Type 0) (x : Text) (j : ℕ) : Type 0 where
   pub inText : j < length x
   pub viable : Viable S (take (suc j) x)
   pub opens : Always S (λ t. (n : ℕ) × (d : ℕ) × OpensAs t n j d × B n d) (take (suc j) x)
-  pub lowest : (f : Fault) (i : ℕ) → read S L x ≡ refused f i → j ≤ i
+  pub clear : Clear S x j
 
-module _ (S : ℕ → Bool) (P : Plain S) (L : Limits) (B : (n d : ℕ) → Type 0) where
-  -- where it falls the limits refuse, if B marks only what they do not admit
-  module _ (bad : (n d : ℕ) → B n d → Shallow L d × (L .many n ≡ false) → ⊥) where
-    not-accepted : (x : Text) (j : ℕ) → Falls S L B x j → (t : Tree) (q : ℕ) → read S L x ≡ accepted t q → ⊥
-    not-accepted x j h t q e =
-        let a : Accepts S L (before (value root)) 0 x t q = subst (Ends S L (before (value root)) 0 x) e (ends S L (before (value root)) 0 x) in
-        let r : Reads S x t q = sound S L x t q e in
-        let l : Legal S (take (suc j) x ⧺ drop (suc j) x) = record { value = r .value; rest = r .rest; tree = t; split = take-append-drop (suc j) x ∙ r .split; reads = r .reads } in
-        let m = h .opens (drop (suc j) x) l in
-        let p : ℕ = 0 + length (a .before) in
-        let last : openings 1 t ≡ openedBy (a .state) = step-done L t (step-moves S L (a .state) p (a .last)) (moves-done L t (step-moves S L (a .state) p (a .last)) (a .ends)) in
-        bad (m .0) (m .1) (m .3) (trace-fine S L (a .trace) (fine-start S P L) (m .0) (at j (m .1)) (ap (λ (us : List Opening). getElem? us (m .0)) (sym last) ∙ m .2))
-
-    stops-syntax : (st : State) (p : ℕ) (y : Text) (f : Fault) → f ≡ syntax → Stops S L st p y f → Stops S unlimited st p y syntax
-    stops-syntax st p [] f e s = refl
-    stops-syntax st p (b ∷ bs) f e s = moves-syntax L (step-moves S L st p b) (s ∙ ap refuse e)
-
-    falls-here : (x : Text) (j : ℕ) → Falls S L B x j → (f : Fault) (i : ℕ) → read S L x ≡ refused f i → (i ≡ j) × (f ≡ syntax → ⊥)
-    falls-here x j h f i e = (same, illegal)
-      where
-        r : Refuses S L (before (value root)) 0 x f i
-        r = refuses S P L x f i e
-
-        v : Text
-        v = r .before
-
-        not-passed : suc j ≤ length v → ⊥
-        not-passed le =
-            let tk : (st : State) × Trace S L (before (value root)) 0 (take (suc j) v) st = trace-take S L (r .trace) (suc j) in
-            let begins : take (suc j) x ≡ take (suc j) v = ap (take (suc j)) (r .split) ∙ take-append-le (suc j) v (r .rest) le in
-            let m = h .opens (h .viable .further) (h .viable .legal) in
-            let inside : j < length (take (suc j) v) = rw (length-take-le (suc j) v le) (omega arith) in
-            bad (m .0) (m .1) (m .3) (passed S P L (tk .1) (take (suc j) x) begins (h .viable .further) (h .viable .legal) (m .0) j (m .1) inside (m .2))
-
-        place : i ≡ length v
-        place = r .place ∙ zero-add (length v)
-
-        same : i ≡ j
-        same = let lo : j ≤ i = h .lowest f i e in elim (decLe (suc j) (length v)) [ yes le ↦ absurd (not-passed le) | no n ↦ omega (arith, n, place) ]
-
-        illegal : f ≡ syntax → ⊥
-        illegal fs =
-            let long : length x ≡ length (v ++ r .rest) = ap length (r .split) in
-            let at : length v < suc j = omega (arith, same, place) in
-            let in-text : suc j ≤ length (v ++ r .rest) = omega (arith, h .inText, long) in
-            dead S P (trace-unlimited S L (r .trace)) syntax (r .rest) (stops-syntax (r .state) (0 + length v) (r .rest) f fs (r .stops)) (suc j) at in-text
-            (subst (λ (z : Text). Viable S (take (suc j) z)) (r .split) (h .viable))
-
-    -- ... at that place, and not for the syntax
-    pub falls-refused : (x : Text) (j : ℕ) → Falls S L B x j → (f : Fault) × (read S L x ≡ refused f j) × (f ≡ syntax → ⊥)
-    falls-refused x j h = by (read S L x) refl
-      where
-        by : (o : Outcome) → read S L x ≡ o → (f : Fault) × (read S L x ≡ refused f j) × (f ≡ syntax → ⊥)
-        by (accepted t q) e = absurd (not-accepted x j h t q e)
-        by (refused f i) e = let r = falls-here x j h f i e in (f, e ∙ ap (refused f) (r .0), r .1)
-
-  -- an opening that a refusal falls on, and that B marks
-  opened-falls : (x : Text) (n j d : ℕ) → OpenedAt S P x n j d → B n d → (f : Fault) → read S L x ≡ refused f j → Falls S L B x j
-  opened-falls x n j d o b f e =
-      record {
-        inText = o .inText;
-        viable = o .viable;
-        opens = λ w l. (n, d, o .always w l, b);
-        lowest = λ g i q. let same : j ≡ i = cc in omega arith;
-      }
+-- a completion of some bytes is one of fewer
+fewer : (S : ℕ → Bool) (x : Text) (i k : ℕ) → i ≤ k → (w : Text) (l : Legal S (take k x ⧺ w)) → Legal S (take i x ⧺ (drop i (take k x) ⧺ w))
+fewer S x i k h w l =
+    let gone : Text = drop i (take k x) in
+    let joined : take i x ++ gone ≡ take k x = ap (λ (y : Text). y ++ gone) (sym (take-take i k x h)) ∙ take-append-drop i (take k x) in
+    record {
+      value = l .value;
+      rest = l .rest;
+      tree = l .tree;
+      split = sym (append-assoc (take i x) gone w) ∙ ap (λ (y : Text). y ++ w) joined ∙ l .split;
+      reads = l .reads;
+    }
 
 module _ (S : ℕ → Bool) (P : Plain S) where
   deep-opened : (L : Limits) (x : Text) (j : ℕ) → read S L x ≡ refused tooDeep j → (n : ℕ) × (d : ℕ) × OpenedAt S P x n j (suc d) × (L .deep (suc d) ≡ true)
@@ -305,59 +292,146 @@ module _ (S : ℕ → Bool) (P : Plain S) where
       let m = deep-stop S P L (r .trace) (r .rest) (r .stops) in
       (m .0, m .1, subst₂ (λ (y : Text) (i : ℕ). OpenedAt S P y (m .0) i (suc (m .1))) (sym (r .split)) (sym (r .place ∙ zero-add (length (r .before)))) (m .2), m .3)
 
-  many-opened : (L : Limits) (x : Text) (j : ℕ) → read S L x ≡ refused tooMany j → (n : ℕ) × (d : ℕ) × OpenedAt S P x n j d × (L .many n ≡ true)
+  many-opened : (L : Limits) (x : Text) (j : ℕ) → read S L x ≡ refused tooMany j → (n : ℕ) × (d : ℕ) × OpenedAt S P x n j d × Shallow L d × (L .many n ≡ true)
   many-opened L x j e =
       let r : Refuses S L (before (value root)) 0 x tooMany j = refuses S P L x tooMany j e in
       let m = many-stop S P L (r .trace) (r .rest) (r .stops) in
-      (m .0, m .1, subst₂ (λ (y : Text) (i : ℕ). OpenedAt S P y (m .0) i (m .1)) (sym (r .split)) (sym (r .place ∙ zero-add (length (r .before)))) (m .2), m .3)
+      (m .0, m .1, subst₂ (λ (y : Text) (i : ℕ). OpenedAt S P y (m .0) i (m .1)) (sym (r .split)) (sym (r .place ∙ zero-add (length (r .before)))) (m .2), m .3, m .4)
 
-  -- "container opened at depth 33", "257th node opened"
-  abbrev pub Depth33 : (n d : ℕ) → Type 0
-  Depth33 n d = d ≡ suc maxDepth
+  depth33-bad : (d : ℕ) → d ≡ suc maxDepth → Shallow limits d → ⊥
+  depth33-bad d e s = ⊎-elim (λ (z : d ≡ 0). omega arith) (λ q. eqb-false d (suc maxDepth) q e) s
 
-  abbrev pub Node257 : (n d : ℕ) → Type 0
-  Node257 n d = n ≡ maxNodes
+  -- what is barred the limits do not admit
+  barred : (n d : ℕ) → Barred n d → Shallow limits d × (limits .many n ≡ false) → ⊥
+  barred n d (inl e) s = depth33-bad d e (s .0)
+  barred n d (inr e) s = eqb-false n maxNodes (s .1) e
 
-  depth33-bad : (n d : ℕ) → Depth33 n d → Shallow limits d → ⊥
-  depth33-bad n d e s = ⊎-elim (λ (z : d ≡ 0). omega arith) (λ q. eqb-false d (suc maxDepth) q e) s
+  -- below a refusal all is clear
+  pub refused-clear : (x : Text) (f : Fault) (j : ℕ) → read S limits x ≡ refused f j → Clear S x j
+  refused-clear x f j e =
+      let r : Refuses S limits (before (value root)) 0 x f j = refuses S P limits x f j e in
+      subst₂ (Clear S) (sym (r .split)) (sym (r .place ∙ zero-add (length (r .before)))) (λ w l n i d o h b.
+      barred n d b (passed S P limits (r .trace) (take (length (r .before)) (r .before ++ r .rest)) (take-append-seam (r .before) (r .rest)) w l n i d h o))
 
-  -- where 33 containers are open at a node that is also the 257th, the depth is what is refused
-  not-many : (x : Text) (j : ℕ) → Falls S limits Depth33 x j → read S limits x ≡ refused tooMany j → ⊥
-  not-many x j h e =
-      let r : Refuses S limits (before (value root)) 0 x tooMany j = refuses S P limits x tooMany j e in
-      let h′ : Falls S limits Depth33 (r .before ++ r .rest) (length (r .before)) = subst₂ (Falls S limits Depth33) (r .split) (r .place ∙ zero-add (length (r .before))) h in
-      let m = h′ .opens (h′ .viable .further) (h′ .viable .legal) in
-      depth33-bad (m .0) (m .1) (m .3) (many-shallow S P limits (r .trace) (r .rest) (r .stops) (h′ .viable .further) (h′ .viable .legal) (m .0) (m .1) (m .2))
+  -- ... and where all is clear a limit does not refuse
+  pub clear-limit : (x : Text) (f : Fault) (i j : ℕ) → read S limits x ≡ refused f i → (f ≡ syntax → ⊥) → i < j → Viable S (take j x) → Clear S x j → ⊥
+  unfolding fewer
+  clear-limit x f i j e nf h u c = by f e nf
+    where
+      w : Text
+      w = u .further
+
+      bad : (n d : ℕ) → OpenedAt S P x n i d → Barred n d → ⊥
+      bad n d o b = c w (u .legal) n i d (o .always (drop (suc i) (take j x) ⧺ w) (fewer S x (suc i) j h w (u .legal))) h b
+
+      by : (f : Fault) → read S limits x ≡ refused f i → (f ≡ syntax → ⊥) → ⊥
+      by syntax e nf = nf refl
+      by tooDeep e nf = let m = deep-opened limits x i e in bad (m .0) (suc (m .1)) (m .2) (inl (eqb-true (suc (m .1)) (suc maxDepth) (m .3)))
+      by tooMany e nf = let m = many-opened limits x i e in bad (m .0) (m .1) (m .2) (inr (eqb-true (m .0) maxNodes (m .4)))
+
+  -- where it falls the limits refuse, if B marks only what is barred
+  module _ (B : (n d : ℕ) → Type 0) (bars : (n d : ℕ) → B n d → Barred n d) where
+    not-accepted : (x : Text) (j : ℕ) → Falls S B x j → (t : Tree) (q : ℕ) → read S limits x ≡ accepted t q → ⊥
+    not-accepted x j h t q e =
+        let a : Accepts S limits (before (value root)) 0 x t q = subst (Ends S limits (before (value root)) 0 x) e (ends S limits (before (value root)) 0 x) in
+        let r : Reads S x t q = sound S limits x t q e in
+        let l : Legal S (take (suc j) x ⧺ drop (suc j) x) = record { value = r .value; rest = r .rest; tree = t; split = take-append-drop (suc j) x ∙ r .split; reads = r .reads } in
+        let m = h .opens (drop (suc j) x) l in
+        let p : ℕ = 0 + length (a .before) in
+        let moves = step-moves S limits (a .state) p (a .last) in
+        let last : openings 1 t ≡ openedBy (a .state) = step-done limits t moves (moves-done limits t moves (a .ends)) in
+        barred (m .0) (m .1) (bars (m .0) (m .1) (m .3))
+        (trace-fine S limits (a .trace) (fine-start S P limits) (m .0) (at j (m .1)) (ap (λ (us : List Opening). getElem? us (m .0)) (sym last) ∙ m .2))
+
+    stops-syntax : (st : State) (p : ℕ) (y : Text) (f : Fault) → f ≡ syntax → Stops S limits st p y f → Stops S unlimited st p y syntax
+    stops-syntax st p [] f e s = refl
+    stops-syntax st p (b ∷ bs) f e s = moves-syntax limits (step-moves S limits st p b) (s ∙ ap refuse e)
+
+    falls-here : (x : Text) (j : ℕ) → Falls S B x j → (f : Fault) (i : ℕ) → read S limits x ≡ refused f i → (i ≡ j) × (f ≡ syntax → ⊥)
+    falls-here x j h f i e = (elim (decLe (suc i) j) [ yes lo ↦ absurd (clear-limit x f i j e illegal lo before-viable (h .clear)) | no n ↦ omega (arith, n, not-later) ], illegal)
+      where
+        r : Refuses S limits (before (value root)) 0 x f i
+        r = refuses S P limits x f i e
+
+        v : Text
+        v = r .before
+
+        before-viable : Viable S (take j x)
+        before-viable = record { further = drop j (take (suc j) x) ⧺ h .viable .further; legal = fewer S x j (suc j) (omega arith) (h .viable .further) (h .viable .legal) }
+
+        not-passed : suc j ≤ length v → ⊥
+        not-passed le =
+            let tk : (st : State) × Trace S limits (before (value root)) 0 (take (suc j) v) st = trace-take S limits (r .trace) (suc j) in
+            let begins : take (suc j) x ≡ take (suc j) v = ap (take (suc j)) (r .split) ∙ take-append-le (suc j) v (r .rest) le in
+            let m = h .opens (h .viable .further) (h .viable .legal) in
+            let inside : j < length (take (suc j) v) = rw (length-take-le (suc j) v le) (omega arith) in
+            barred (m .0) (m .1) (bars (m .0) (m .1) (m .3))
+            (passed S P limits (tk .1) (take (suc j) x) begins (h .viable .further) (h .viable .legal) (m .0) j (m .1) inside (m .2))
+
+        place : i ≡ length v
+        place = r .place ∙ zero-add (length v)
+
+        not-later : i ≤ j
+        not-later = elim (decLe (suc j) (length v)) [ yes le ↦ absurd (not-passed le) | no n ↦ omega (arith, n, place) ]
+
+        illegal : f ≡ syntax → ⊥
+        illegal fs =
+            let long : length x ≡ length (v ++ r .rest) = ap length (r .split) in
+            let at : length v < suc j = omega (arith, not-later, place) in
+            let in-text : suc j ≤ length (v ++ r .rest) = omega (arith, h .inText, long) in
+            dead S P (trace-unlimited S limits (r .trace)) syntax (r .rest) (stops-syntax (r .state) (0 + length v) (r .rest) f fs (r .stops)) (suc j) at in-text
+            (subst (λ (z : Text). Viable S (take (suc j) z)) (r .split) (h .viable))
+
+    -- ... at that place, and not for the syntax
+    falls-refused : (x : Text) (j : ℕ) → Falls S B x j → (f : Fault) × (read S limits x ≡ refused f j) × (f ≡ syntax → ⊥)
+    falls-refused x j h = by (read S limits x) refl
+      where
+        by : (o : Outcome) → read S limits x ≡ o → (f : Fault) × (read S limits x ≡ refused f j) × (f ≡ syntax → ⊥)
+        by (accepted t q) e = absurd (not-accepted x j h t q e)
+        by (refused f i) e = let r = falls-here x j h f i e in (f, e ∙ ap (refused f) (r .0), r .1)
+
+    -- an opening that a refusal falls on, and that B marks
+    opened-falls : (x : Text) (n j d : ℕ) → OpenedAt S P x n j d → B n d → (f : Fault) → read S limits x ≡ refused f j → Falls S B x j
+    opened-falls x n j d o b f e = record { inText = o .inText; viable = o .viable; opens = λ w l. (n, d, o .always w l, b); clear = refused-clear x f j e }
+
+  -- the depth of what opens where it falls
+  falls-depth : {B : (n d : ℕ) → Type 0} {x : Text} {n j d : ℕ} → OpenedAt S P x n j d → Falls S B x j → (m : ℕ) × B m d
+  falls-depth {B = B} o h =
+      let u = h .viable in
+      let m = h .opens (u .further) (u .legal) in
+      (m .0, subst (B (m .0)) (o .only (u .further) (u .legal) (m .0) (m .1) (m .2)) (m .3))
 
   -- 5 falls exactly there
-  pub deep-exact : (x : Text) (j : ℕ) → (read S limits x ≡ refused tooDeep j) ↔ Falls S limits Depth33 x j
+  pub deep-exact : (x : Text) (j : ℕ) → (read S limits x ≡ refused tooDeep j) ↔ Falls S Depth33 x j
   deep-exact x j = (out, back)
     where
-      out : read S limits x ≡ refused tooDeep j → Falls S limits Depth33 x j
-      out e = let m = deep-opened limits x j e in opened-falls S P limits Depth33 x (m .0) j (suc (m .1)) (m .2) (eqb-true (suc (m .1)) (suc maxDepth) (m .3)) tooDeep e
+      out : read S limits x ≡ refused tooDeep j → Falls S Depth33 x j
+      out e = let m = deep-opened limits x j e in opened-falls Depth33 (λ n d b. inl b) x (m .0) j (suc (m .1)) (m .2) (eqb-true (suc (m .1)) (suc maxDepth) (m .3)) tooDeep e
 
-      by : Falls S limits Depth33 x j → (f : Fault) → read S limits x ≡ refused f j → (f ≡ syntax → ⊥) → read S limits x ≡ refused tooDeep j
+      by : Falls S Depth33 x j → (f : Fault) → read S limits x ≡ refused f j → (f ≡ syntax → ⊥) → read S limits x ≡ refused tooDeep j
       by h syntax e n = absurd (n refl)
       by h tooDeep e n = e
-      by h tooMany e n = absurd (not-many x j h e)
+      by h tooMany e n = let m = many-opened limits x j e in absurd (depth33-bad (m .1) (falls-depth (m .2) h .1) (m .3))
 
-      back : Falls S limits Depth33 x j → read S limits x ≡ refused tooDeep j
-      back h = let r = falls-refused S P limits Depth33 (λ n d b s. depth33-bad n d b (s .0)) x j h in by h (r .0) (r .1) (r .2)
+      back : Falls S Depth33 x j → read S limits x ≡ refused tooDeep j
+      back h = let r = falls-refused Depth33 (λ n d b. inl b) x j h in by h (r .0) (r .1) (r .2)
 
-  -- 6 falls exactly there, where 5 does not
-  pub many-exact : (x : Text) (j : ℕ) → (read S limits x ≡ refused tooMany j) ↔ (Falls S limits Node257 x j × (read S limits x ≡ refused tooDeep j → ⊥))
+  -- 6 falls exactly there
+  pub many-exact : (x : Text) (j : ℕ) → (read S limits x ≡ refused tooMany j) ↔ Falls S Node257 x j
   many-exact x j = (out, back)
     where
-      out : read S limits x ≡ refused tooMany j → Falls S limits Node257 x j × (read S limits x ≡ refused tooDeep j → ⊥)
-      out e = let m = many-opened limits x j e in (opened-falls S P limits Node257 x (m .0) j (m .1) (m .2) (eqb-true (m .0) maxNodes (m .3)) tooMany e, λ d. clash cc)
+      out : read S limits x ≡ refused tooMany j → Falls S Node257 x j
+      out e =
+          let m = many-opened limits x j e in
+          opened-falls Node257 (λ n d b. inr (b .0)) x (m .0) j (m .1) (m .2) (eqb-true (m .0) maxNodes (m .4), λ q. depth33-bad (m .1) q (m .3)) tooMany e
 
-      by : (read S limits x ≡ refused tooDeep j → ⊥) → (f : Fault) → read S limits x ≡ refused f j → (f ≡ syntax → ⊥) → read S limits x ≡ refused tooMany j
-      by nd syntax e n = absurd (n refl)
-      by nd tooDeep e n = absurd (nd e)
-      by nd tooMany e n = e
+      by : Falls S Node257 x j → (f : Fault) → read S limits x ≡ refused f j → (f ≡ syntax → ⊥) → read S limits x ≡ refused tooMany j
+      by h syntax e n = absurd (n refl)
+      by h tooDeep e n = let m = deep-opened limits x j e in absurd (falls-depth (m .2) h .1 .1 (eqb-true (suc (m .1)) (suc maxDepth) (m .3)))
+      by h tooMany e n = e
 
-      back : Falls S limits Node257 x j × (read S limits x ≡ refused tooDeep j → ⊥) → read S limits x ≡ refused tooMany j
-      back h = let r = falls-refused S P limits Node257 (λ n d b s. eqb-false n maxNodes (s .1) b) x j (h .0) in by (h .1) (r .0) (r .1) (r .2)
+      back : Falls S Node257 x j → read S limits x ≡ refused tooMany j
+      back h = let r = falls-refused Node257 (λ n d b. inr (b .0)) x j h in by h (r .0) (r .1) (r .2)
 
   -- a limit's refusal never ties with the syntax's: it falls strictly below
   pub limit-below-syntax : (L : Limits) (x : Text) (f : Fault) (j i : ℕ) → read S L x ≡ refused f j → (f ≡ syntax → ⊥) → read S unlimited x ≡ refused syntax i → j < i

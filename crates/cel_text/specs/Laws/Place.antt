@@ -2,22 +2,21 @@
 -- beginning; and with limits no other `syntax`. Every state has a completion, and no text goes on past a refused byte. Assumes nothing.
 use mathlib.Core.Path.{_≡_, refl, sym, ap, subst, subst₂, _∙_}
 use mathlib.Core.Logic.{_↔_}
-use Prim.Native.Nat.{ℕ, zero, suc, _+_, _-_, _≤_, _<_}
+use Prim.Native.Nat.{ℕ, suc, _+_, _-_, _≤_, _<_}
 use native.Mathlib.Nat.{zero-add, le-antisymm}
 use native.Mathlib.Decide.{decLe}
-use mathlib.Core.Bool.{Bool, true, false}
+use mathlib.Core.Bool.{Bool, false}
 use mathlib.Core.List.{List, [], _∷_, _++_, append-assoc, append-nil}
-use lib.ListN.{length, take, drop, length-append, take-append-drop}
+use lib.ListN.{length, take, length-append}
 use lib.Seq.{take-append-seam, take-append-add}
-use lib.Dec.{eqb}
 use native.Mathlib.Omega.{arith}
-use Rattle.cel_text.specs.Byte.{Text, _⧺_, blank, identByte, Run, over, quote, comma, colon, Plain}
-use Rattle.cel_text.specs.Tree.{Kind, array, object, function, opener, closer, Key, unkeyed, key, Tree, string, Trees, ∅, _▸_∶_, Opening}
-use Rattle.cel_text.specs.Grammar.{Value, a-string, Legal, Viable, Longest}
-use Rattle.cel_text.specs.Reading.{Limits, unlimited, Stack, root, inside, Frame, Due, value, entry, State, before, naming, named, quoted, dropping, begun, after, Fault, syntax, tooDeep, tooMany, Step, go, done, refuse, step, start, past, bare, unquote, enter, whole, closed, fresh, withKey, withChild, Outcome, accepted, refused, follow, run, read}
+use Rattle.cel_text.specs.Byte.{Text, blank, identByte, over, quote, colon, Plain}
+use Rattle.cel_text.specs.Tree.{function, opener, closer, unkeyed, key, Tree, string, ∅, _▸_∶_, Opening}
+use Rattle.cel_text.specs.Grammar.{a-string, Legal, Viable, Longest}
+use Rattle.cel_text.specs.Reading.{Limits, unlimited, Stack, root, inside, Frame, Due, value, entry, State, before, naming, named, quoted, dropping, begun, after, Fault, syntax, Step, go}
+use Rattle.cel_text.specs.Reading.{done, refuse, step, start, past, bare, unquote, enter, whole, closed, fresh, withKey, withChild, Outcome, accepted, refused, run, read}
 use Rattle.cel_text.specs.Laws.Run.{resume, whole-resumes}
 use Rattle.cel_text.specs.Laws.Complete.{reads-value, closes, complete-unlimited}
-use Rattle.cel_text.specs.Laws.Admit.{unlimited-admits}
 use Rattle.cel_text.specs.Laws.Trace.{Trace, here, there, traced, Accepts, Refuses, Stops, Ends, ends}
 use Rattle.cel_text.specs.Laws.Move.{Moves, quiet, opens, finishes, stops, deep, many, step-moves}
 use Rattle.cel_text.specs.Laws.Sound.{Reads, sound}
@@ -153,7 +152,8 @@ module _ (S : ℕ → Bool) (P : Plain S) where
   legal-accepted x l = rw (l .split) (complete-unlimited S P (l .reads) (l .rest))
 
   -- a text that is refused at its end or at a byte is not legal; nor is any that begins with the bytes up to that one
-  stopped : {v : Text} {st : State} → Trace S unlimited (before (value root)) 0 v st → (f : Fault) (x : Text) → Stops S unlimited st (0 + length v) x f → read S unlimited (v ++ x) ≡ refused f (0 + length v)
+  stopped : {v : Text} {st : State} → Trace S unlimited (before (value root)) 0 v st → (f : Fault) (x : Text) → Stops S unlimited st (0 + length v) x f
+      → read S unlimited (v ++ x) ≡ refused f (0 + length v)
   stopped {v = v} {st = st} tr f x s = traced S unlimited tr x ∙ stop x s
     where
       stop : (x : Text) → Stops S unlimited st (0 + length v) x f → run S unlimited st (0 + length v) x ≡ refused f (0 + length v)

@@ -1,16 +1,17 @@
 -- Reading on, over a run of bytes, a name, and after a whole value. Assumes nothing.
-use mathlib.Core.Path.{_≡_, refl, sym, ap, ap₂, _∙_}
+use mathlib.Core.Path.{_≡_, refl, ap, ap₂, _∙_}
 use Prim.Native.Nat.{ℕ, suc, _+_}
-use native.Mathlib.Nat.{add-zero, add-suc, suc-add}
-use mathlib.Core.Bool.{Bool, true, false}
+use native.Mathlib.Nat.{add-zero}
+use mathlib.Core.Bool.{Bool, false}
 use mathlib.Core.List.{[], _∷_, _++_, append-assoc}
 use lib.ListN.{length, length-append}
 use lib.Dec.{T, eqb}
 use native.Mathlib.Omega.{arith}
-use Rattle.cel_text.specs.Byte.{Text, _⧺_, blank, identByte, Run, over, byte, Blanks, quote, Plain}
+use Rattle.cel_text.specs.Byte.{Text, _⧺_, blank, identByte, Run, over, byte, Blanks, quote}
 use Rattle.cel_text.specs.Tree.{Tree, opener, array}
 use Rattle.cel_text.specs.Grammar.{Named, nameless, with-name}
-use Rattle.cel_text.specs.Reading.{Limits, Stack, root, inside, Frame, Due, value, entry, State, before, naming, named, quoted, dropping, begun, after, Step, go, step, start, past, bare, unquote, whole, withChild, Outcome, accepted, follow, run}
+use Rattle.cel_text.specs.Reading.{Limits, Stack, root, inside, Frame, Due, value, entry, State, before, naming, named, quoted, dropping, begun, after, Step, go, done, refuse, step, start}
+use Rattle.cel_text.specs.Reading.{past, bare, unquote, whole, withChild, Outcome, accepted, ended, stopped, outcome, meet, follow, halt, run}
 use Rattle.cel_text.specs.Laws.Class.{is-true, ident-blank, blank-ident}
 
 -- reading on, once the value t is whole, at place q
@@ -19,6 +20,17 @@ resume S L root t q rest = accepted t q
 resume S L (inside K f) t q rest = run S L (after K (withChild f t)) q rest
 
 module _ (S : ℕ → Bool) (L : Limits) where
+  -- what reading on gives is the outcome of where it stops
+  pub halt-outcome : (st : State) (p : ℕ) (x : Text) → outcome (halt S L st p x) ≡ run S L st p x
+  halt-outcome st p [] = refl
+  halt-outcome st p (b ∷ bs) = by (λ st′. halt-outcome st′ (suc p) bs) (step S L st p b)
+    where
+      by : ((st′ : State) → outcome (halt S L st′ (suc p) bs) ≡ run S L st′ (suc p) bs) → (u : Step)
+          → outcome (meet u (λ st′. halt S L st′ (suc p) bs) (λ t. ended t (suc p)) (λ f. stopped st f p)) ≡ follow u p (λ st′. run S L st′ (suc p) bs)
+      by ih (go st′) = ih st′
+      by ih (done t) = refl
+      by ih (refuse f) = refl
+
   pub whole-resumes : (K : Stack) (t : Tree) (p : ℕ) (rest : Text) → follow (whole K t) p (λ st. run S L st (suc p) rest) ≡ resume S L K t (suc p) rest
   whole-resumes root t p rest = refl
   whole-resumes (inside K f) t p rest = refl

@@ -2,17 +2,19 @@
 -- are put together, and each step keeps that. Assumes nothing.
 use mathlib.Core.Path.{_≡_, refl, sym, ap, subst, subst₂, _∙_}
 use Prim.Native.Nat.{ℕ, suc, _+_, _≤_}
-use native.Mathlib.Nat.{add-zero, suc-add}
-use mathlib.Core.Bool.{Bool, true, false, cond}
+use native.Mathlib.Nat.{suc-add}
+use mathlib.Core.Bool.{Bool, true, false}
 use mathlib.Core.List.{[], _∷_, _++_, append-assoc, append-nil}
 use lib.ListN.{length, length-append}
 use lib.Dec.{T, eqb}
 use native.Mathlib.Omega.{arith}
 use borrow.Author.Tests.{eqb-true}
 use Rattle.cel_text.specs.Byte.{Text, _⧺_, blank, identByte, Run, over, byte, Blanks, Identifier, quote, comma, colon}
-use Rattle.cel_text.specs.Tree.{Kind, array, object, function, opener, closer, Key, unkeyed, key, Tree, string, container, Trees, ∅, _▸_∶_, nodes, nodesAll, depth}
-use Rattle.cel_text.specs.Grammar.{Named, nameless, with-name, Head, array-head, object-head, function-head, Label, in-array, in-function, in-object, Separator, first, next, Value, a-string, a-container, Children, no-child, one-more}
-use Rattle.cel_text.specs.Reading.{Limits, Stack, root, inside, level, opened, Frame, Due, value, entry, State, before, naming, named, quoted, dropping, begun, after, Fault, Step, go, done, refuse, step, start, past, bare, unquote, enter, enterString, whole, child, closed, fresh, withKey, withChild, accepted, read, limits, maxDepth, maxNodes}
+use Rattle.cel_text.specs.Tree.{Kind, array, object, function, opener, closer, Key, unkeyed, key, Tree, string, container, Trees, nodes, nodesAll, depth}
+use Rattle.cel_text.specs.Grammar.{Named, nameless, with-name, Head, array-head, object-head, function-head, Label, in-array, in-function, in-object, Separator, first, next, Value, a-string}
+use Rattle.cel_text.specs.Grammar.{a-container, Children, no-child, one-more}
+use Rattle.cel_text.specs.Reading.{Limits, Stack, root, inside, level, opened, Frame, Due, value, entry, State, before, naming, named, quoted, dropping, begun, after, Step, go, done, refuse}
+use Rattle.cel_text.specs.Reading.{step, start, past, bare, unquote, enter, enterString, whole, child, closed, withKey, accepted, read, limits, maxDepth, maxNodes}
 use Rattle.cel_text.specs.Laws.Class.{by-test}
 use Rattle.cel_text.specs.Laws.Admit.{Admits, AdmitsAll, admits-fits}
 use Rattle.cel_text.specs.Laws.Trace.{Trace, here, there, Accepts, Ends, ends}
@@ -339,7 +341,8 @@ module _ (S : ℕ → Bool) where
         })
         (λ e. by-test (λ u. Good u x) (blank b) _ _
         (λ e′. record { stem = z; blanks = b ∷ []; holds = d; areBlanks = byte (passed e′) over; ends = refl; split = ex })
-        (λ e′. past-good w (d .front) (d .due) (name-of w from d over (length z) refl) (length z) b x (ap length (d .split) ∙ simp length-append (omega arith)) (rw (ex, d .split) (simp append-assoc))))
+        (λ e′. past-good w (d .front) (d .due) (name-of w from d over (length z) refl) (length z) b x (ap length (d .split) ∙ simp length-append (omega arith))
+        (rw (ex, d .split) (simp append-assoc))))
     step-good (named w from to) z b d x ex =
         let m : Naming w from (d .stem) = d .holds in
         by-test (λ u. Good u x) (blank b) _ _
@@ -442,7 +445,9 @@ module _ (S : ℕ → Bool) (L : Limits) where
 
   kept-past : (w : Due) (from to p b : ℕ) → KeptDue w → KeptStep (past S L w from to p b)
   unfolding past
-  kept-past (value K) from to p b k = by-test KeptStep (eqb b (opener object)) _ _ (λ e. kept-enter object K from to p k) (λ e. by-test KeptStep (eqb b (opener function)) _ _ (λ e′. kept-enter function K from to p k) (λ e′. tt))
+  kept-past (value K) from to p b k =
+      by-test KeptStep (eqb b (opener object)) _ _ (λ e. kept-enter object K from to p k)
+      (λ e. by-test KeptStep (eqb b (opener function)) _ _ (λ e′. kept-enter function K from to p k) (λ e′. tt))
   kept-past (entry K f) from to p b k = by-test KeptStep (eqb b colon) _ _ (λ e. k) (λ e. tt)
 
   kept-bare : (w : Due) (p b : ℕ) → KeptDue w → KeptStep (bare S L w p b)
@@ -476,7 +481,8 @@ module _ (S : ℕ → Bool) (L : Limits) where
   kept-step (quoted K o) p b k = by-test KeptStep (S b) _ _ (λ e. k) (λ e. kept-unquote K o p p b k)
   kept-step (dropping K o to) p b k = kept-unquote K o to p b k
   kept-step (begun K f) p b k =
-      by-test KeptStep (blank b) _ _ (λ e. k) (λ e. by-test KeptStep (eqb b (closer (f .kind))) _ _ (λ e′. kept-close K f (suc p) k) (λ e′. kept-start (child (f .kind) K f) p b (kept-child (f .kind) K f k)))
+      by-test KeptStep (blank b) _ _ (λ e. k)
+      (λ e. by-test KeptStep (eqb b (closer (f .kind))) _ _ (λ e′. kept-close K f (suc p) k) (λ e′. kept-start (child (f .kind) K f) p b (kept-child (f .kind) K f k)))
   kept-step (after K f) p b k =
       by-test KeptStep (blank b) _ _ (λ e. k)
       (λ e. by-test KeptStep (eqb b comma) _ _ (λ e′. kept-child (f .kind) K f k) (λ e′. by-test KeptStep (eqb b (closer (f .kind))) _ _ (λ e″. kept-close K f (suc p) k) (λ e″. tt)))

@@ -84,12 +84,20 @@ same-length-6 c = search needs
 
 returns-6 : tie.Need-returns-6
 returns-6 c =
-    let long = length (c .before .before .before .before .before .before .before .before .before .before .before .before .before .before .before .before .before .before .before .before .before .before .before .before .args .line .now) in
-    let u = c .before .before .before .before .before .before .before .before .before .before .before .before .before .before .before .before .before .before .unhex in (
-      subst (AtMost (length (u .last .1 .0))) (c .before .before .before .before .before .before .before .before .before .before .before .before .before .before .count .given .1) (u .ensures .1 .1),
-      subst (Within long 4096) (c .before .before .before .before .before .before .before .before .before .before .words .given .1) (c .before .before .before .before .before .before .before .before .before .before .before .before .number-field .ensures) .0,
-      subst (Within long 4096) (c .before .before .before .before .before .before .words2 .given .1) (c .before .before .before .before .before .before .before .before .number-field2 .ensures) .0,
-      subst (Within long 16384) (c .before .before .output .given .1) (c .before .before .before .before .number-field3 .ensures) .0,
+    let d = c .before .before .before .before .before .before .before .before .before .before .before .before in
+    let a = d .before .before .before .before .before .before .before .before .before .before .before .before .args in
+    let count = d .before .before .count in
+    let number-field = d .number-field in
+    let words = c .before .before .before .before .before .before .before .before .before .before .words in
+    let number-field2 = c .before .before .before .before .before .before .before .before .number-field2 in
+    let words2 = c .before .before .before .before .before .before .words2 in
+    let number-field3 = c .before .before .before .before .number-field3 in
+    let long = length (a .line .now) in
+    let u = d .before .before .before .before .before .before .unhex in (
+      subst (AtMost (length (u .last .1 .0))) (count .given .1) (u .ensures .1 .1),
+      subst (Within long 4096) (words .given .1) (number-field .ensures) .0,
+      subst (Within long 4096) (words2 .given .1) (number-field2 .ensures) .0,
+      subst (Within long 16384) (c .before .before .output .given .1) (number-field3 .ensures) .0,
     )
 
 pub requested-spec : {M : Type 1} → statement M

@@ -41,7 +41,9 @@ loop-again c =
     l .inv ∙ every-more (a .words .now) (a .to) (a .w) (c .before .before .before .before .pre) (l .i) (c .before .before .loop-test .taken) (c .if1 .left)
 
 returns-2 : tie.Need-returns-2 Inv-loop μ-loop
-returns-2 c = sym (c .before .loop .inv ∙ every-end (c .before .before .args .words .now) (c .before .before .args .to) (c .before .before .args .w) (c .before .before .pre) (c .before .loop .i) (c .loop-test .left))
+returns-2 c =
+    sym (c .before .loop .inv ∙ every-end (c .before .before .args .words .now) (c .before .before .args .to) (c .before .before .args .w) (c .before .before .pre) (c .before .loop .i)
+    (c .loop-test .left))
 
 pub all-are-spec : {M : Type 1} → statement M
 all-are-spec =

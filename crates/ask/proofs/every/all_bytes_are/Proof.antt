@@ -38,7 +38,9 @@ loop-again c =
     l .inv ∙ every-more (a .row .now) (a .to) (a .b) (c .before .before .before .before .pre) (l .i) (c .before .before .loop-test .taken) (c .if1 .left)
 
 returns-2 : tie.Need-returns-2 Inv-loop μ-loop
-returns-2 c = sym (c .before .loop .inv ∙ every-end (c .before .before .args .row .now) (c .before .before .args .to) (c .before .before .args .b) (c .before .before .pre) (c .before .loop .i) (c .loop-test .left))
+returns-2 c =
+    sym (c .before .loop .inv ∙ every-end (c .before .before .args .row .now) (c .before .before .args .to) (c .before .before .args .b) (c .before .before .pre) (c .before .loop .i)
+    (c .loop-test .left))
 
 pub all-bytes-are-spec : {M : Type 1} → statement M
 all-bytes-are-spec =

@@ -96,12 +96,17 @@ same-length-10 c = search needs
 
 returns-6 : tie.Need-returns-6
 returns-6 c =
-    let long = length (c .before .before .before .before .before .before .before .before .before .before .before .before .before .before .before .before .before .before .before .before .before .before .before .before .before .before .before .before .args .line .now) in
-    let u = c .before .before .before .before .before .before .before .before .before .before .before .before .before .before .before .before .before .before .before .before .before .unhex in
+    let d = c .before .before .before .before .before .before .before .before .before .before .before .before in
+    let a = d .before .before .before .before .before .before .before .before .before .before .before .before .before .before .before .before .args in
+    let count = d .before .before .before .before .before .count in
+    let table = c .before .before .before .before .before .before .table in
+    let number-after = c .before .before .before .before .number-after in
+    let long = length (a .line .now) in
+    let u = d .before .before .before .before .before .before .before .before .before .unhex in
     let w = c .before .before .before .before .before .before .before .before .before .before .words-after in (
-      subst (AtMost (length (u .last .1 .0))) (c .before .before .before .before .before .before .before .before .before .before .before .before .before .before .before .before .before .count .given .1) (u .ensures .1 .1),
-      subst (Within long (length (w .last .1 .1 .0))) (c .before .before .before .before .before .before .table .given .1) (w .ensures) .0,
-      subst (Within long 16384) (c .before .before .lent .given .1) (c .before .before .before .before .number-after .ensures .1) .0,
+      subst (AtMost (length (u .last .1 .0))) (count .given .1) (u .ensures .1 .1),
+      subst (Within long (length (w .last .1 .1 .0))) (table .given .1) (w .ensures) .0,
+      subst (Within long 16384) (c .before .before .lent .given .1) (number-after .ensures .1) .0,
     )
 
 pub requested-spec : {M : Type 1} → statement M

@@ -20,7 +20,10 @@ returns : tie.Need-returns
 returns c = search needs
 
 cast-t6 : tie.Need-cast-t6
-cast-t6 c = omega (arith, subst (Within (length (c .before .before .before .before .before .args .line .now)) 4294967295) (c .before .field .given .1) (c .before .before .before .number-after .ensures .1))
+cast-t6 c =
+    let a = c .before .before .before .before .before .args in
+    let number-after = c .before .before .before .number-after in
+    omega (arith, subst (Within (length (a .line .now)) 4294967295) (c .before .field .given .1) (number-after .ensures .1))
 
 returns-2 : tie.Need-returns-2
 returns-2 c = search needs

@@ -51,15 +51,21 @@ returns-3 : tie.Need-returns-3 Inv-loop μ-loop
 returns-3 c = simp length-set (omega arith)
 
 add-from : tie.Need-add-from Inv-loop μ-loop
-add-from c = omega (arith, subst (Ends (length (c .before .before .before .before .before .before .before .before .before .before .args .field .now))) (c .before .before .word .given .1) (c .before .before .before .before .word-from .ensures))
+add-from c =
+    let a = c .before .before .before .before .before .before .before .before .before .before .args in
+    let word-from = c .before .before .before .before .word-from in
+    omega (arith, subst (Ends (length (a .field .now))) (c .before .before .word .given .1) (word-from .ensures))
 
 loop-less : tie.Need-loop-less Inv-loop μ-loop
 loop-less c = omega arith
 
 loop-again : tie.Need-loop-again Inv-loop μ-loop
 loop-again c =
-    let end = subst (Ends (length (c .before .before .before .before .before .before .before .before .before .before .args .field .now))) (c .before .before .word .given .1) (c .before .before .before .before .word-from .ensures) in
-    (omega arith, simp length-set (c .before .before .before .before .before .before .loop .inv .1))
+    let a = c .before .before .before .before .before .before .before .before .before .before .args in
+    let l = c .before .before .before .before .before .before .loop in
+    let word-from = c .before .before .before .before .word-from in
+    let end = subst (Ends (length (a .field .now))) (c .before .before .word .given .1) (word-from .ensures) in
+    (omega arith, simp length-set (l .inv .1))
 
 same-length-3 : tie.Need-same-length-3 Inv-loop μ-loop
 same-length-3 c = c .before .loop .inv .1

@@ -43,7 +43,10 @@ same-length-2 : tie.Need-same-length-2
 same-length-2 c = search needs
 
 returns-3 : tie.Need-returns-3
-returns-3 c = (subst (AtMost (length (c .before .before .before .before .before .words .last .1 .0))) (c .before .count .given .1) (c .before .before .before .before .before .words .ensures), c .before .before .before .before .before .before .before .before .find .ensures .1)
+returns-3 c =
+    let find = c .before .before .before .before .before .before .before .before .find in
+    let words = c .before .before .before .before .before .words in
+    (subst (AtMost (length (words .last .1 .0))) (c .before .count .given .1) (words .ensures), find .ensures .1)
 
 pub words-after-spec : {M : Type 1} → statement M
 words-after-spec =

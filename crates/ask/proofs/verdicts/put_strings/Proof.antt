@@ -53,7 +53,10 @@ put-comma-requires : tie.Need-put-comma-requires Inv-loop μ-loop
 put-comma-requires c κs = c .before .before .before .before .before .loop .inv .0
 
 cast-put-string : tie.Need-cast-put-string Inv-loop μ-loop
-cast-put-string c = omega (arith, c .before .before .before .before .before .before .shared-slice-known3 .given (2 * c .before .before .before .before .before .before .before .before .before .loop .i))
+cast-put-string c =
+    let l = c .before .before .before .before .before .before .before .before .before .loop in
+    let shared-slice-known3 = c .before .before .before .before .before .before .shared-slice-known3 in
+    omega (arith, shared-slice-known3 .given (2 * l .i))
 
 cast-put-string-2 : tie.Need-cast-put-string-2 Inv-loop μ-loop
 cast-put-string-2 c = omega (arith, c .before .before .before .before .before .shared-slice-known4 .given (2 * c .before .before .before .before .before .before .before .before .before .loop .i + 1))
@@ -68,7 +71,10 @@ loop-less : tie.Need-loop-less Inv-loop μ-loop
 loop-less c = omega arith
 
 loop-again : tie.Need-loop-again Inv-loop μ-loop
-loop-again c = (c .before .before .put-string .ensures, c .before .before .put-string .kept .0 ∙ c .before .before .before .before .before .before .put-comma .kept .0 ∙ c .before .before .before .before .before .before .before .before .before .before .before .before .loop .inv .1)
+loop-again c =
+    let l = c .before .before .before .before .before .before .before .before .before .before .before .before .loop in
+    let put-comma = c .before .before .before .before .before .before .put-comma in
+    (c .before .before .put-string .ensures, c .before .before .put-string .kept .0 ∙ put-comma .kept .0 ∙ l .inv .1)
 
 same-length-2 : tie.Need-same-length-2 Inv-loop μ-loop
 same-length-2 c = c .before .loop .inv .1 ∙ c .before .before .before .before .put .kept .0

@@ -1,12 +1,14 @@
 -- `measure::list` meets its contract: the strings, and three bytes for each but one. Assumes nothing.
-use native.Mathlib.Omega.{arith}
-use Rattle.create_cel_expr.proofs.Sums.{list-zero, list-some}
+use Rattle.create_cel_expr.proofs.Lists.{list-zero, list-some}
 use borrow.Author.Needs.{needs}
 use Rattle.create_cel_expr.proofs.measure.list.Statement.{statement}
 use Rattle.create_cel_expr.proofs.measure.list.Tie as tie
+use native.Mathlib.Omega.{arith}
 
 returns : tie.Need-returns
-returns c = omega (arith, list-zero (c .before .before .args .spans .now) (c .before .before .args .count) (c .before .before .args .begin) (c .if1 .taken))
+returns c =
+    let a = c .before .before .before .args in
+    omega (arith, list-zero (a .text .now) (a .spans .now) (a .begin) (a .count) (c .if1 .taken))
 
 strings-requires : tie.Need-strings-requires
 strings-requires c κs = search needs
@@ -21,7 +23,9 @@ sum-requires : tie.Need-sum-requires
 sum-requires c κs = search needs
 
 returns-2 : tie.Need-returns-2
-returns-2 c = omega (arith, c .sum .ensures, c .before .strings .ensures, list-some (c .before .before .before .before .args .spans .now) (c .before .before .before .before .args .count) (c .before .before .before .before .args .begin) (c .before .before .if1 .left))
+returns-2 c =
+    let a = c .before .before .before .before .before .args in
+    omega (arith, c .sum .ensures, c .before .strings .ensures, list-some (a .text .now) (a .spans .now) (a .begin) (a .count) (c .before .before .if1 .left))
 
 pub list-spec : {M : Type 1} → statement M
 list-spec = tie.close (tie.spec returns strings-requires mul-sum sub-sum sum-requires returns-2)

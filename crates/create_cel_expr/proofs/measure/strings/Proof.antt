@@ -1,54 +1,56 @@
 -- `measure::strings` meets its contract: at each turn the sum so far and what is left come to the same. Assumes nothing.
-use mathlib.Core.Path.{_≡_}
-use Prim.Native.Nat.{ℕ, _+_, _-_, _≤_, min}
+use mathlib.Core.Path.{_≡_, ap}
+use Prim.Native.Nat.{_+_, _-_, _≤_, min}
 use native.Mathlib.Nat.{add-zero, sub-zero}
-use native.Mathlib.Numerals.{add-one-le}
-use borrow.Author.Count.{falls}
-use native.Mathlib.Omega.{arith}
-use Rattle.create_cel_expr.specs.Measure.{bytesOf}
-use Rattle.create_cel_expr.proofs.Sums.{bytes-turn, bytes-end}
+use lib.ListN.{length}
+use Rattle.cel_policy.specs.Printed.{total}
+use Rattle.create_cel_expr.specs.Given.{stringsAt, tooLong}
+use Rattle.create_cel_expr.proofs.Lists.{leftOf, total-turn, total-end}
 use Rattle.create_cel_expr.proofs.measure.strings.Statement.{statement}
 use Rattle.create_cel_expr.proofs.measure.strings.Tie as tie
-use Rattle.create_cel_expr.proofs.Widths.{fits-next}
+use borrow.Author.Needs.{needs}
+use native.Mathlib.Omega.{arith}
 
 abbrev Inv-loop : tie.InvT-loop
-Inv-loop spans begin count before length₀ i₀ length i = (i ≤ count) × (length ≤ 8193) × (min 8193 (length + bytesOf spans (count - i) (begin + i)) ≡ min 8193 (before + bytesOf spans count begin))
+Inv-loop text spans begin count before length₀ i₀ length i =
+    (length ≤ tooLong) × (min tooLong (length + total (leftOf text spans begin count i)) ≡ min tooLong (before + total (stringsAt text spans count begin)))
 
 abbrev μ-loop : tie.MeasureT-loop
-μ-loop spans begin count before length₀ i₀ length i = count - i
+μ-loop text spans begin count before length₀ i₀ length i = count - i
 
 loop-holds : tie.Need-loop-holds Inv-loop μ-loop
-loop-holds c = (omega arith, omega arith, rw (sub-zero, add-zero))
+loop-holds c = (c .before .before .pre .1, rw (sub-zero, add-zero))
 
-add-at : tie.Need-add-at Inv-loop μ-loop
-add-at c = record { fits = omega (arith, c .before .before .before .pre .0 (c .before .loop .i) (c .loop-test .taken) .0) }
+add-string : tie.Need-add-string Inv-loop μ-loop
+add-string c =
+    let s = c .before .before .before .before in
+    record { fits = omega (arith, s .pre .0 (c .before .loop .i) (c .loop-test .taken) .inTable) }
 
-to-requires : tie.Need-to-requires Inv-loop μ-loop
-to-requires c κs = c .before .before .before .pre .0 (c .before .loop .i) (c .loop-test .taken) .0
-
-from-requires : tie.Need-from-requires Inv-loop μ-loop
-from-requires c κs = c .before .before .before .before .pre .0 (c .before .before .loop .i) (c .before .loop-test .taken) .0
-
-sub-sum : tie.Need-sub-sum Inv-loop μ-loop
-sub-sum c = omega (arith, c .before .before .before .before .before .pre .0 (c .before .before .before .loop .i) (c .before .before .loop-test .taken) .1, c .before .to .ensures, c .from .ensures)
+string-requires : tie.Need-string-requires Inv-loop μ-loop
+string-requires c κs =
+    let s = c .before .before .before .before in
+    s .pre .0 (c .before .loop .i) (c .loop-test .taken)
 
 sum-requires : tie.Need-sum-requires Inv-loop μ-loop
-sum-requires c κs = c .before .before .before .loop .inv .1
+sum-requires c κs = search needs
 
 add-i : tie.Need-add-i Inv-loop μ-loop
-add-i c = fits-next (c .before .before .before .loop-test .taken) (c .before .before .before .before .before .before .fits .count)
+add-i c = search needs
 
 loop-less : tie.Need-loop-less Inv-loop μ-loop
-loop-less c = falls _ _ (c .before .before .before .loop-test .taken)
+loop-less c = search needs
 
 loop-again : tie.Need-loop-again Inv-loop μ-loop
 loop-again c =
-    let s = c .before .before .before .before .before .before .args in
-    let turn = bytes-turn (s .spans .now) (s .count) (s .begin) (c .before .before .before .before .loop .i) (c .before .before .before .loop-test .taken) (c .before .before .before .before .loop .length) (c .before .before .to .ensures) (c .before .from .ensures) (c .sum .ensures) (c .before .before .before .before .loop .inv .2) in
-    (add-one-le (c .before .before .before .loop-test .taken), turn .0, turn .1)
+    let a = c .before .before .before .before .before .before .args in
+    let l = c .before .before .before .loop in
+    total-turn (a .text .now) (a .spans .now) (a .begin) (a .count) (l .i) (l .length) _ (c .before .before .loop-test .taken) (ap length (c .before .string .ensures)) (c .sum .ensures) (l .inv .1)
 
 returns : tie.Need-returns Inv-loop μ-loop
-returns c = bytes-end (c .before .before .before .args .spans .now) (c .before .before .before .args .count) (c .before .before .before .args .begin) (c .before .loop .i) (c .loop-test .left) (c .before .loop .inv .1) (c .before .loop .inv .2)
+returns c =
+    let a = c .before .before .before .before .args in
+    let l = c .before .loop in
+    total-end (a .text .now) (a .spans .now) (a .begin) (a .count) (l .length) (c .loop-test .left) (l .inv .0) (l .inv .1)
 
 pub strings-spec : {M : Type 1} → statement M
 strings-spec =
@@ -57,10 +59,8 @@ strings-spec =
     Inv-loop
     μ-loop
     loop-holds
-    add-at
-    to-requires
-    from-requires
-    sub-sum
+    add-string
+    string-requires
     sum-requires
     add-i
     loop-less

@@ -1,8 +1,6 @@
 -- `span::to` meets its contract: the second word of string i's two. Assumes nothing.
-use mathlib.Core.Path.{ap, _∙_}
-use Prim.Native.Nat.{ℕ}
+use mathlib.Core.Path.{_∙_}
 use native.Mathlib.Numerals.{add-one}
-use lib.ListN.{getD}
 use borrow.Author.Needs.{needs}
 use Rattle.create_cel_expr.proofs.span.to.Statement.{statement}
 use Rattle.create_cel_expr.proofs.span.to.Tie as tie

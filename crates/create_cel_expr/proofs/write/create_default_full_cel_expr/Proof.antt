@@ -1,51 +1,38 @@
 -- `write::create_default_full_cel_expr` meets its contract: four pieces, one after the other. Assumes nothing.
-use mathlib.Core.Path.{refl, _∙_}
-use Prim.Native.Nat.{_+_}
-use mathlib.Core.List.{List, [], _∷_}
-use lib.ListN.{length}
-use Rattle.cel_text.specs.Byte.{Text}
-use Rattle.cel_policy.specs.Policy.{Policy}
-use Rattle.cel_policy.specs.Printed.{certifyingHead, certifyingTail, requestText, responseText, fullText}
-use Rattle.create_cel_expr.specs.Over.{over}
-use Rattle.create_cel_expr.specs.Given.{policyOf}
-use Rattle.create_cel_expr.proofs.Pieces.{Left, left-all, left-room, left-next, left-last}
+use Rattle.cel_policy.specs.Printed.{fullText}
+use Rattle.pieces.specs.Laws.{wrote-then}
 use Rattle.create_cel_expr.proofs.write.create_default_full_cel_expr.Statement.{statement}
 use Rattle.create_cel_expr.proofs.write.create_default_full_cel_expr.Tie as tie
-
-abbrev given : tie.Start → Policy Text
-given c = policyOf (c .args .policy) (c .args .text .now) (c .args .spans .now)
-
-abbrev pieces : Policy Text → List Text
-pieces p = certifyingHead ∷ (requestText p ∷ (responseText p ∷ (certifyingTail ∷ [])))
-
-whole : (c : tie.Start) → Left (pieces (given c)) (c .args .out .now) 0 (over (c .args .out .now) 0 (fullText (given c))) (0 + length (fullText (given c)))
-unfolding fullText
-whole c = left-all (pieces (given c)) (c .args .out .now) 0 (c .pre .1)
+use borrow.Author.Needs.{needs}
 
 slice-aggregate-put : tie.Need-slice-aggregate-put
-slice-aggregate-put c = refl
+slice-aggregate-put c = search needs
 
 put-requires : tie.Need-put-requires
-put-requires c κs = left-room (whole (c .before .before .before .before .before))
+put-requires c κs = search needs
 
 create-request-cel-expr-requires : tie.Need-create-request-cel-expr-requires
-create-request-cel-expr-requires c κs = (c .before .before .before .before .before .before .before .before .before .pre .0, left-room (left-next (whole (c .before .before .before .before .before .before .before .before .before)) (c .before .before .before .put .ensures)))
+create-request-cel-expr-requires c κs = search needs
 
 create-response-cel-expr-requires : tie.Need-create-response-cel-expr-requires
-create-response-cel-expr-requires c κs = (c .before .before .before .before .before .before .before .before .before .before .before .before .before .pre .0, left-room (left-next (left-next (whole (c .before .before .before .before .before .before .before .before .before .before .before .before .before)) (c .before .before .before .before .before .before .before .put .ensures)) (c .before .before .before .create-request-cel-expr .ensures)))
+create-response-cel-expr-requires c κs = search needs
 
 slice-aggregate-put-2 : tie.Need-slice-aggregate-put-2
-slice-aggregate-put-2 c = refl
+slice-aggregate-put-2 c = search needs
 
 put-requires-2 : tie.Need-put-requires-2
-put-requires-2 c κs = left-room (left-next (left-next (left-next (whole (c .before .before .before .before .before .before .before .before .before .before .before .before .before .before .before .before .before .before)) (c .before .before .before .before .before .before .before .before .before .before .before .before .put .ensures)) (c .before .before .before .before .before .before .before .before .create-request-cel-expr .ensures)) (c .before .before .before .before .create-response-cel-expr .ensures))
+put-requires-2 c κs = search needs
 
 same-length : tie.Need-same-length
-same-length c = c .before .before .put2 .kept .0 ∙ c .before .before .before .before .before .before .before .create-response-cel-expr .kept .0 ∙ c .before .before .before .before .before .before .before .before .before .before .before .create-request-cel-expr .kept .0 ∙ c .before .before .before .before .before .before .before .before .before .before .before .before .before .before .before .put .kept .0
+same-length c = search needs
 
 returns : tie.Need-returns
+unfolding fullText
 returns c =
-    left-last (left-next (left-next (left-next (whole (c .before .before .before .before .before .before .before .before .before .before .before .before .before .before .before .before .before .before .before .before .before)) (c .before .before .before .before .before .before .before .before .before .before .before .before .before .before .before .put .ensures)) (c .before .before .before .before .before .before .before .before .before .before .before .create-request-cel-expr .ensures)) (c .before .before .before .before .before .before .before .create-response-cel-expr .ensures)) (c .before .before .put2 .ensures)
+    let o = c .before .before .before .before .before .before .before .before .before .before .before .before .before .before .before .put in
+    let q = c .before .before .before .before .before .before .before .before .before .before .before .create-request-cel-expr in
+    let r = c .before .before .before .before .before .before .before .create-response-cel-expr in
+    wrote-then (o .ensures) (wrote-then (q .ensures) (wrote-then (r .ensures) (c .before .before .put2 .ensures)))
 
 pub create-default-full-cel-expr-spec : {M : Type 1} → statement M
 create-default-full-cel-expr-spec =

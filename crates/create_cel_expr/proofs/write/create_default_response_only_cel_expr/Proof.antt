@@ -1,47 +1,34 @@
 -- `write::create_default_response_only_cel_expr` meets its contract: three pieces, one after the other. Assumes nothing.
-use mathlib.Core.Path.{refl, _∙_}
-use Prim.Native.Nat.{_+_}
-use mathlib.Core.List.{List, [], _∷_, _++_}
-use lib.ListN.{length}
-use Rattle.cel_text.specs.Byte.{Text, bytes}
-use Rattle.cel_policy.specs.Policy.{Policy}
-use Rattle.cel_policy.specs.Printed.{certifyingHead, certifyingTail, responseText, responseOnlyText}
-use Rattle.create_cel_expr.specs.Over.{over}
-use Rattle.create_cel_expr.specs.Given.{policyOf}
-use Rattle.create_cel_expr.proofs.Pieces.{Left, left-all, left-room, left-next, left-last}
+use Rattle.cel_policy.specs.Printed.{responseOnlyText}
+use Rattle.pieces.specs.Laws.{wrote-then}
 use Rattle.create_cel_expr.proofs.write.create_default_response_only_cel_expr.Statement.{statement}
 use Rattle.create_cel_expr.proofs.write.create_default_response_only_cel_expr.Tie as tie
-
-abbrev given : tie.Start → Policy Text
-given c = policyOf (c .args .policy) (c .args .text .now) (c .args .spans .now)
-
-abbrev pieces : Policy Text → List Text
-pieces p = (certifyingHead ++ bytes "no_request_certification:Empty{},") ∷ (responseText p ∷ (certifyingTail ∷ []))
-
-whole : (c : tie.Start) → Left (pieces (given c)) (c .args .out .now) 0 (over (c .args .out .now) 0 (responseOnlyText (given c))) (0 + length (responseOnlyText (given c)))
-unfolding responseOnlyText
-whole c = left-all (pieces (given c)) (c .args .out .now) 0 (c .pre .1)
+use borrow.Author.Needs.{needs}
 
 slice-aggregate-put : tie.Need-slice-aggregate-put
-slice-aggregate-put c = refl
+slice-aggregate-put c = search needs
 
 put-requires : tie.Need-put-requires
-put-requires c κs = left-room (whole (c .before .before .before .before .before))
+put-requires c κs = search needs
 
 create-response-cel-expr-requires : tie.Need-create-response-cel-expr-requires
-create-response-cel-expr-requires c κs = (c .before .before .before .before .before .before .before .before .before .pre .0, left-room (left-next (whole (c .before .before .before .before .before .before .before .before .before)) (c .before .before .before .put .ensures)))
+create-response-cel-expr-requires c κs = search needs
 
 slice-aggregate-put-2 : tie.Need-slice-aggregate-put-2
-slice-aggregate-put-2 c = refl
+slice-aggregate-put-2 c = search needs
 
 put-requires-2 : tie.Need-put-requires-2
-put-requires-2 c κs = left-room (left-next (left-next (whole (c .before .before .before .before .before .before .before .before .before .before .before .before .before .before)) (c .before .before .before .before .before .before .before .before .put .ensures)) (c .before .before .before .before .create-response-cel-expr .ensures))
+put-requires-2 c κs = search needs
 
 same-length : tie.Need-same-length
-same-length c = c .before .before .put2 .kept .0 ∙ c .before .before .before .before .before .before .before .create-response-cel-expr .kept .0 ∙ c .before .before .before .before .before .before .before .before .before .before .before .put .kept .0
+same-length c = search needs
 
 returns : tie.Need-returns
-returns c = left-last (left-next (left-next (whole (c .before .before .before .before .before .before .before .before .before .before .before .before .before .before .before .before .before)) (c .before .before .before .before .before .before .before .before .before .before .before .put .ensures)) (c .before .before .before .before .before .before .before .create-response-cel-expr .ensures)) (c .before .before .put2 .ensures)
+unfolding responseOnlyText
+returns c =
+    let o = c .before .before .before .before .before .before .before .before .before .before .before .put in
+    let r = c .before .before .before .before .before .before .before .create-response-cel-expr in
+    wrote-then (o .ensures) (wrote-then (r .ensures) (c .before .before .put2 .ensures))
 
 pub create-default-response-only-cel-expr-spec : {M : Type 1} → statement M
 create-default-response-only-cel-expr-spec =

@@ -8,9 +8,7 @@ slice-aggregate-put : tie.Need-slice-aggregate-put
 slice-aggregate-put c = search needs
 
 put-requires : tie.Need-put-requires
-unfolding skipText
-put-requires c κs =
-    c .before .before .before .pre
+put-requires c κs = search needs
 
 same-length : tie.Need-same-length
 same-length c = search needs

@@ -78,7 +78,7 @@ same-length c = simp length-set
 returns : tie.Need-returns
 returns c =
     let a = c .before .before .before .before .before .args in
-    put-six (a .table .now) _ (a .kind) (a .from .0) (a .to .0) (a .keyfrom .0) (a .keyto .0) (a .parent)
+    put-six (a .table .now) _ (a .kind) (a .from .0) (a .to .0) (a .keyfrom .0) (a .keyto .0) (a .parent .0)
 
 pub open-row-spec : {M : Type 1} → statement M
 open-row-spec =

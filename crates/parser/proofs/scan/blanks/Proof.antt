@@ -20,14 +20,14 @@ abbrev μ-loop : tie.MeasureT-loop
 loop-holds : tie.Need-loop-holds Inv-loop μ-loop
 loop-holds c = refl
 
-shared-slice-read-is-blank : tie.Need-shared-slice-read-is-blank Inv-loop μ-loop
-shared-slice-read-is-blank c = omega arith
+shared-slice-read-has : tie.Need-shared-slice-read-has Inv-loop μ-loop
+shared-slice-read-has c = omega arith
 
-is-blank-requires : tie.Need-is-blank-requires Inv-loop μ-loop
-is-blank-requires c κs = tt
+has-requires : tie.Need-has-requires Inv-loop μ-loop
+has-requires c κs = tt
 
 returns : tie.Need-returns Inv-loop μ-loop
-returns c = sym (c .before .before .before .before .loop .inv ∙ end-stop blank (c .before .before .before .before .before .before .args .text .now) (c .before .before .before .before .loop .i) (sym (c .before .is-blank .ensures) ∙ not-true _ (c .if1 .taken)))
+returns c = sym (c .before .before .before .before .loop .inv ∙ end-stop blank (c .before .before .before .before .before .before .args .text .now) (c .before .before .before .before .loop .i) (sym (c .before .has .ensures) ∙ not-true _ (c .if1 .taken)))
 
 add-t5 : tie.Need-add-t5 Inv-loop μ-loop
 add-t5 c = omega arith
@@ -42,7 +42,7 @@ loop-again : tie.Need-loop-again Inv-loop μ-loop
 loop-again c =
     let x = c .before .before .before .before .before .before .before .args .text .now in
     let i = c .before .before .before .before .before .loop .i in
-    c .before .before .before .before .before .loop .inv ∙ end-more blank x i (c .before .before .before .before .loop-test .taken) (sym (c .before .before .is-blank .ensures) ∙ not-false _ (c .before .if1 .left))
+    c .before .before .before .before .before .loop .inv ∙ end-more blank x i (c .before .before .before .before .loop-test .taken) (sym (c .before .before .has .ensures) ∙ not-false _ (c .before .if1 .left))
     ∙ ap (endOf blank x) (sym (add-one i)) ∙ end-spaces x (c .spaces .ensures)
 
 returns-2 : tie.Need-returns-2 Inv-loop μ-loop
@@ -55,8 +55,8 @@ blanks-spec =
     Inv-loop
     μ-loop
     loop-holds
-    shared-slice-read-is-blank
-    is-blank-requires
+    shared-slice-read-has
+    has-requires
     returns
     add-t5
     spaces-requires

@@ -19,8 +19,8 @@ is-ident-requires c κs = search needs
 enum-told-3 : tie.Need-enum-told-3
 enum-told-3 c = search needs
 
-is-content-requires : tie.Need-is-content-requires
-is-content-requires c κs = search needs
+is-string-byte-requires : tie.Need-is-string-byte-requires
+is-string-byte-requires c κs = search needs
 
 enum-told-4 : tie.Need-enum-told-4
 enum-told-4 c = search needs
@@ -32,7 +32,7 @@ returns-2 : tie.Need-returns-2
 returns-2 c = rw (c .before .enum-told2 .given .1) (c .is-ident .ensures)
 
 returns-3 : tie.Need-returns-3
-returns-3 c = rw (c .before .enum-told3 .given .1) (c .is-content .ensures)
+returns-3 c = rw (c .before .enum-told3 .given .1) (c .is-string-byte .ensures)
 
 returns-4 : tie.Need-returns-4
 unfolding ascii
@@ -40,4 +40,4 @@ returns-4 c =
     rw (c .enum-told4 .given .1)
 
 pub has-spec : {M : Type 1} → statement M
-has-spec = tie.close (tie.spec enum-told is-blank-requires enum-told-2 is-ident-requires enum-told-3 is-content-requires enum-told-4 returns returns-2 returns-3 returns-4)
+has-spec = tie.close (tie.spec enum-told is-blank-requires enum-told-2 is-ident-requires enum-told-3 is-string-byte-requires enum-told-4 returns returns-2 returns-3 returns-4)

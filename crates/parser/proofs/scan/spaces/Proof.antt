@@ -22,11 +22,11 @@ sub-loop c = omega (arith, c .loop .inv .1)
 spaces-of-eight-requires : tie.Need-spaces-of-eight-requires Inv-loop μ-loop
 spaces-of-eight-requires c κs = omega (arith, c .loop-test .taken, c .before .loop .inv .1)
 
-cast-t8 : tie.Need-cast-t8 Inv-loop μ-loop
-cast-t8 c = omega (arith, c .if1 .taken)
+cast-t9 : tie.Need-cast-t9 Inv-loop μ-loop
+cast-t9 c = omega (arith, c .if1 .taken)
 
-add-t9 : tie.Need-add-t9 Inv-loop μ-loop
-add-t9 c = omega (arith, c .if1 .taken, c .before .before .loop-test .taken, c .before .before .before .loop .inv .1)
+add-t10 : tie.Need-add-t10 Inv-loop μ-loop
+add-t10 c = omega (arith, c .if1 .taken, c .before .before .loop-test .taken, c .before .before .before .loop .inv .1)
 
 returns : tie.Need-returns Inv-loop μ-loop
 returns c = spaces-more (c .before .before .before .before .before .args .text .now) (c .before .before .before .loop .inv) (c .before .spaces-of-eight .ensures .0)
@@ -54,8 +54,8 @@ spaces-spec =
     loop-holds
     sub-loop
     spaces-of-eight-requires
-    cast-t8
-    add-t9
+    cast-t9
+    add-t10
     returns
     add-i
     loop-less

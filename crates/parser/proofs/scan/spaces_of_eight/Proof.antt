@@ -14,7 +14,7 @@ returns : tie.Need-returns
 returns c =
     let a = c .before .before .before .args in
     let e = c .before .eight in
-    spaces-told (a .text .now) (a .i) (e .result) (c .wrapping-sub-u64 .result) (c .before .before .before .pre) (e .ensures .1) (e .ensures .0) (c .wrapping-sub-u64 .ensures)
+    spaces-told (a .text .now) (a .at .0) (e .result) (c .wrapping-sub-u64 .result) (c .before .before .before .pre) (e .ensures .1) (e .ensures .0) (c .wrapping-sub-u64 .ensures)
 
 pub spaces-of-eight-spec : {M : Type 1} → statement M
 spaces-of-eight-spec = tie.close (tie.spec eight-requires wrapping-sub-u64-requires returns)

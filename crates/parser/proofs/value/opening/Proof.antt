@@ -6,8 +6,8 @@ use Rattle.parser.proofs.Values.{headed}
 use Rattle.parser.proofs.value.opening.Statement.{statement}
 use Rattle.parser.proofs.value.opening.Tie as tie
 
-ident-requires : tie.Need-ident-requires
-ident-requires c κs = search needs
+trimmed-ident-requires : tie.Need-trimmed-ident-requires
+trimmed-ident-requires c κs = search needs
 
 peek-requires : tie.Need-peek-requires
 peek-requires c κs = search needs
@@ -16,11 +16,11 @@ opener-kind-requires : tie.Need-opener-kind-requires
 opener-kind-requires c κs = search needs
 
 returns : tie.Need-returns
-returns c = headed (c .before .before .before .before .before .before .before .before .before .before .args .text .now) (c .before .before .before .before .before .before .before .before .ident .ensures) (c .before .before .before .before .before .before .before .before .before .before .pre) (c .before .opener-kind .result) 0 0 (c .before .opener-kind .ensures ∙ rw (c .before .before .before .before .peek .ensures)) (rw (eq-eqb (c .before .opener-kind .result) 2 (c .if1 .taken))) (rw (eq-eqb (c .before .opener-kind .result) 2 (c .if1 .taken)))
+returns c = headed (c .before .before .before .before .before .before .before .before .before .before .args .text .now) (c .before .before .before .before .before .before .before .before .trimmed-ident .ensures) (c .before .before .before .before .before .before .before .before .before .before .pre) (c .before .opener-kind .result) 0 0 (c .before .opener-kind .ensures ∙ rw (c .before .before .before .before .peek .ensures)) (rw (eq-eqb (c .before .opener-kind .result) 2 (c .if1 .taken))) (rw (eq-eqb (c .before .opener-kind .result) 2 (c .if1 .taken)))
 
 returns-2 : tie.Need-returns-2
-returns-2 c = headed (c .before .before .before .before .before .before .before .before .before .before .args .text .now) (c .before .before .before .before .before .before .before .before .ident .ensures) (c .before .before .before .before .before .before .before .before .before .before .pre) (c .before .opener-kind .result) _ _ (c .before .opener-kind .ensures ∙ rw (c .before .before .before .before .peek .ensures)) (rw (ne-eqb (c .before .opener-kind .result) 2 (c .if1 .left))) (rw (ne-eqb (c .before .opener-kind .result) 2 (c .if1 .left)))
+returns-2 c = headed (c .before .before .before .before .before .before .before .before .before .before .args .text .now) (c .before .before .before .before .before .before .before .before .trimmed-ident .ensures) (c .before .before .before .before .before .before .before .before .before .before .pre) (c .before .opener-kind .result) _ _ (c .before .opener-kind .ensures ∙ rw (c .before .before .before .before .peek .ensures)) (rw (ne-eqb (c .before .opener-kind .result) 2 (c .if1 .left))) (rw (ne-eqb (c .before .opener-kind .result) 2 (c .if1 .left)))
 
 pub opening-spec : {M : Type 1} → statement M
 opening-spec =
-    tie.close (tie.spec ident-requires peek-requires opener-kind-requires returns returns-2)
+    tie.close (tie.spec trimmed-ident-requires peek-requires opener-kind-requires returns returns-2)

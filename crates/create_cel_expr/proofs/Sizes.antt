@@ -1,0 +1,72 @@
+-- The length that was measured is the printed text's, and decides what is printed. Assumes nothing.
+use mathlib.Core.Path.{_≡_, refl, ap, _∙_}
+use Prim.Native.Nat.{ℕ, _+_, _≤_, _<_, min}
+use native.Mathlib.Nat.{zero-add}
+use native.Mathlib.Omega.{arith}
+use mathlib.Core.List.{_++_}
+use lib.ListN.{length, drop}
+use borrow.Author.Tests.{lt-ltb, le-ltb, eq-eqb, ne-eqb}
+use Rattle.cel_text.specs.Byte.{Text}
+use Rattle.cel_text.specs.Answer.{maxText}
+use Rattle.cel_policy.specs.Policy.{Policy, skip, responseOnly}
+use Rattle.cel_policy.specs.Printed.{listLength, printed, printedLength}
+use Rattle.cel_policy.specs.Answers.{Printing, unprinted, sized, PrintAnswer, printAnswered, output}
+use Rattle.cel_policy.specs.Laws.Lengths.{length-printed}
+use Rattle.cel_policy.specs.Laws.Entries.{sized-fits}
+use Rattle.pieces.specs.Pieces.{Wrote}
+use Rattle.pieces.specs.Laws.{wrote-whole}
+use Rattle.create_cel_expr.specs.Given.{tooLong}
+
+-- ---- the length of each form
+module _ (p : Policy Text) where
+  pub length-skip : p .form ≡ skip → 63 ≡ min tooLong (printedLength p)
+  unfolding printedLength
+  length-skip e = rw (eq-eqb (p .form) skip e)
+
+  pub length-response-only : p .form ≡ responseOnly → {r : ℕ} → r ≡ min tooLong (204 + listLength (p .responseHeaders)) → r ≡ min tooLong (printedLength p)
+  unfolding printedLength
+  length-response-only e h = rw (ne-eqb (p .form) skip (λ f. omega arith), eq-eqb (p .form) responseOnly e) h
+
+  pub length-full :
+      (p .form ≡ skip → ⊥) → (p .form ≡ responseOnly → ⊥) → {a b r : ℕ} → a ≡ min tooLong (274 + listLength (p .requestHeaders))
+      → b ≡ min tooLong (a + listLength (p .queryParameters)) → r ≡ min tooLong (b + listLength (p .responseHeaders)) → r ≡ min tooLong (printedLength p)
+  unfolding printedLength
+  length-full n m ea eb er = rw (ne-eqb (p .form) skip n, ne-eqb (p .form) responseOnly m) (omega (arith, ea, eb, er))
+
+-- ---- what is printed
+
+sized-23 : (t : Text) (room : ℕ) → maxText < length t → sized t room ≡ unprinted 23 0
+unfolding sized
+sized-23 t room h = rw (lt-ltb maxText (length t) h)
+
+sized-24 : (t : Text) (room : ℕ) → length t ≤ maxText → room < length t → sized t room ≡ unprinted 24 0
+unfolding sized
+sized-24 t room h r = rw (le-ltb maxText (length t) h, lt-ltb room (length t) r)
+
+-- an answer and an output after it are those of what was found
+abbrev pub Told : PrintAnswer → (out out′ : Text) → Printing → Type 0
+Told a out out′ w = (a ≡ printAnswered w) × (out′ ≡ output w out)
+
+module _ (p : Policy Text) (out : Text) {n : ℕ} (measured : n ≡ min tooLong (printedLength p)) where
+  long : length (printed p) ≡ printedLength p
+  long = length-printed p
+
+  pub told-23 : {a : PrintAnswer} → maxText < n → a ≡ printAnswered (unprinted 23 0) → Told a out out (sized (printed p) (length out))
+  told-23 h e = rw (sized-23 (printed p) (length out) (omega (arith, measured, long))) (e, refl)
+
+  pub told-24 : {a : PrintAnswer} → n ≤ maxText → length out < n → a ≡ printAnswered (unprinted 24 0) → Told a out out (sized (printed p) (length out))
+  told-24 h r e = rw (sized-24 (printed p) (length out) (omega (arith, measured, long)) (omega (arith, measured, long))) (e, refl)
+
+  -- the length of what is written
+  pub told-length : n ≤ maxText → n ≡ length (printed p)
+  told-length h = omega (arith, measured, long)
+
+  pub told-written : {out′ : Text} {past : ℕ} → n ≤ maxText → n ≤ length out → Wrote out out′ 0 past (printed p)
+      → Told (record { refusal = 0; name = 0; kind = 0; place = 0; length = n }) out out′ (sized (printed p) (length out))
+  told-written h r w =
+      let same : n ≡ length (printed p) = told-length h in
+      let whole = wrote-whole w (omega (arith, same)) in
+      rw (sized-fits (printed p) (length out) (omega (arith, same)) (omega (arith, same))) (
+        ap {B = PrintAnswer} (λ (m : ℕ). record { refusal = 0; name = 0; kind = 0; place = 0; length = m }) same,
+        whole .1 ∙ ap (λ (m : ℕ). printed p ++ drop m out) (zero-add (length (printed p))),
+      )
