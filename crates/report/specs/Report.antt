@@ -1,5 +1,4 @@
 -- The report on a text, whole: the policy in words, or the refusal and the place that it is about. Assumes nothing.
-use Prim.Native.Nat.{ℕ}
 use mathlib.Core.Bool.{cond}
 use lib.ListN.{replicate}
 use lib.Dec.{eqb}

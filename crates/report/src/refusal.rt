@@ -1,7 +1,5 @@
 // A refusal in words: its number, what it means, and the part of the text around its place.
 ghost use mathlib.Core.Path.{_≡_};
-ghost use Prim.Native.Nat.{_≤_, _<_, _^_};
-ghost use lib.ListN.{length};
 ghost use Rattle.parser.specs.Found.{told};
 ghost use Rattle.pieces.specs.Pieces.{Wrote};
 ghost use Rattle.report.specs.Refusal.{messageNumber, readingText, insteadText, wrongText, noArgumentText, noPropertyText, choiceText};
@@ -15,7 +13,6 @@ use ast_mapping::name;
 use page::say;
 use parser::Answer;
 use parser::Node;
-use parser::Place;
 
 // Two more messages of the syntax, after those of refusals 1 to 6: at the text's end, and at its first byte.
 const AT_THE_END: u32 = 7;

@@ -22,7 +22,11 @@ same-length : tie.Need-same-length
 same-length c = search needs
 
 returns : tie.Need-returns
-returns c = rw (append-nil (pair (c .before .before .before .before .before .before .before .before .before .before .before .args .b))) at (wrote-then (c .before .before .before .before .before .before .before .put .ensures) (c .before .before .put-hex .ensures))
+returns c =
+    let u = c .before .before in
+    let v = u .before .before .before .before .before in
+    let w = v .before .before .before .before in
+    rw (append-nil (pair (w .args .b))) at (wrote-then (v .put .ensures) (u .put-hex .ensures))
 
 pub put-hex-spec : {M : Type 1} → statement M
 put-hex-spec =

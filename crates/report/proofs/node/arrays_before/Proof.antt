@@ -1,5 +1,5 @@
 -- `node::arrays_before` meets its contract: each node passed is counted where it is an array. Assumes nothing.
-use mathlib.Core.Path.{_≡_, sym, ap, _∙_}
+use mathlib.Core.Path.{_≡_, ap, _∙_}
 use Prim.Native.Nat.{ℕ, _+_, _-_, _≤_}
 use Rattle.report.specs.Node.{arraysBefore}
 use Rattle.report.proofs.Walks.{arrays-more}

@@ -1,5 +1,5 @@
 -- `policy::put_canonical` meets its contract: what printing gives is said, or that it gives nothing. Assumes nothing.
-use mathlib.Core.Path.{sym, ap}
+use mathlib.Core.Path.{ap}
 use lib.ListN.{replicate}
 use Rattle.cel_text.specs.Byte.{stringByte}
 use Rattle.cel_policy.specs.Policy.{numbers}
