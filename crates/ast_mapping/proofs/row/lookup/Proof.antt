@@ -1,13 +1,14 @@
 -- `row::lookup` meets its contract: what was found so far is what the definition finds among the children passed. Assumes nothing.
 use mathlib.Core.Path.{_≡_, refl}
 use Prim.Native.Nat.{_-_, _<_}
+use native.Mathlib.Nat.{add-sub-cancel}
 use mathlib.Core.Logic.{⊎-elim}
 use lib.Seq.{slice}
 use Rattle.cel_text.specs.Table.{word}
 use Rattle.cel_policy.specs.Names.{same, spelling}
 use Rattle.ast_mapping.proofs.Counts.{le-as, lt-as}
 use Rattle.ast_mapping.proofs.View.{RowRead, row-read, Child, room, later, few}
-use Rattle.ast_mapping.proofs.Walk.{Passed, before-first, none-passed, hit, miss, all-passed, passing}
+use Rattle.ast_mapping.proofs.Walk.{Passed, none-passed, hit, miss, all-passed, passing}
 use Rattle.ast_mapping.proofs.row.lookup.Statement.{statement}
 use Rattle.ast_mapping.proofs.row.lookup.Tie as tie
 use native.Mathlib.Omega.{arith}
@@ -23,7 +24,7 @@ whole c = let s = c .before .before .before in row-read (c .read-row .ensures) (
 
 passed : (c : tie.At-loop Inv-loop μ-loop)
     → let s = c .before .before .before .before .before .before in Passed (s .args .table .now) (s .args .text .now) (s .args .object .0) (s .args .name) (c .loop .next .0) (c .loop .found)
-passed c = rw (before-first (c .before .before .before .before .before .before .args .object .0)) at (c .loop .inv)
+passed c = rw (add-sub-cancel (c .before .before .before .before .before .before .args .object .0) 1) at (c .loop .inv)
 
 more : (c : tie.Then1 Inv-loop μ-loop)
     → let s = c .before .before .before .before .before .before .before .before .before in c .before .before .before .loop .next .0 < word (s .args .table .now) (s .args .object .0) 7
@@ -56,7 +57,7 @@ add-t10 c =
 loop-holds : tie.Need-loop-holds Inv-loop μ-loop
 loop-holds c =
     let s = c .before .before .before .before .before in
-    rw (before-first (s .args .object .0)) (none-passed (s .args .table .now) (s .args .text .now) (s .args .object .0) (s .pre) (s .args .name))
+    rw (add-sub-cancel (s .args .object .0) 1) (none-passed (s .args .table .now) (s .args .text .now) (s .args .object .0) (s .pre) (s .args .name))
 
 read-row-requires-2 : tie.Need-read-row-requires-2 Inv-loop μ-loop
 read-row-requires-2 c κs = tt
@@ -87,7 +88,7 @@ loop-again c =
     let r = entry (c .before .before .before) in
     let b = c .before .before .is-name-at .result in
     let keyed : b ≡ same (slice (word w next 3) (word w next 4) x) (spelling name) = rw (r .keyfrom, r .keyto) at (c .before .before .is-name-at .ensures) in
-    rw (before-first n, r .past)
+    rw (add-sub-cancel n 1, r .past)
     (⊎-elim
     (λ t. rw (t .1) (hit w x n (s .pre) name (passed l) (more (c .before .before .before .before)) b keyed (l .loop .next) refl (t .0 .taken)))
     (λ t. rw (t .1) (miss w x n (s .pre) name (passed l) (more (c .before .before .before .before)) b keyed (t .0 .left)))
