@@ -49,9 +49,12 @@ loop-again c =
     let y = b8 .args .b .now in
     let i = b4 .loop .i in
     let more = c .before .before .before .loop-test .taken in
-    let both = b4 .loop .inv .1 in
-    (add-one-le more, both, b4 .loop .inv .2 ∙ rw (add-one, same-step x y i more (lt-as both more), c .still .ensures)
-    (sym (and-assoc (b4 .loop .so) (eqb (getD x i 0) (getD y i 0)) (same (drop (suc i) x) (drop (suc i) y)))))
+    let both = b4 .loop .inv .1 in (
+      add-one-le more,
+      both,
+      b4 .loop .inv .2 ∙ rw (add-one, same-step x y i more (lt-as both more), c .still .ensures)
+          (sym (and-assoc (b4 .loop .so) (eqb (getD x i 0) (getD y i 0)) (same (drop (suc i) x) (drop (suc i) y)))),
+    )
 
 returns-2 : tie.Need-returns-2 Inv-loop μ-loop
 returns-2 c =
