@@ -15,7 +15,7 @@ use Rattle.cel_policy.specs.Mapping.{listAt, requestLists, requestOf, requestPa
 use Rattle.cel_policy.specs.Laws.Natural.{overMapped, overOnly}
 use Rattle.parser.specs.declared.Node.{Node as Numbered}
 use Rattle.ast_mapping.specs.View.{stringsOf, nodeAt, children, typedAt, Held, Tabled}
-use Rattle.ast_mapping.specs.Steps.{foundAs, numbered, FoundIf, OnlyIf, Looked, refusalTold, fieldsUsed, Small, Checked, ListChecked, onlyAs, Listing, HeadersFound}
+use Rattle.ast_mapping.specs.Steps.{foundAs, numbered, FoundIf, OnlyIf, Looked, refusalTold, fieldsUsed, SmallNode, Checked, ListChecked, onlyAs, Listing, HeadersFound}
 use Rattle.ast_mapping.specs.Steps.{Requested, Responded, requestAs, RequestIn, certifiedAs, mappedAs, MappedIn, Maps}
 use Rattle.ast_mapping.specs.declared.row.Found.{Found}
 use Rattle.ast_mapping.specs.declared.row.Found.the-variants.{At, Nothing}
@@ -36,7 +36,7 @@ use Rattle.ast_mapping.proofs.Lists.{tabled}
 -- ---- refusals
 
 -- the node of a refusal that was told
-pub small-of : {r : Told} {f : Refusal} → refusalTold r ≡ f → f .node < maxNodes → Small r
+pub small-of : {r : Told} {f : Refusal} → refusalTold r ≡ f → f .node < maxNodes → SmallNode r
 small-of e = subst (λ (n : ℕ). n < maxNodes) (sym (ap (λ (f : Refusal). f .node) e))
 
 -- ---- exactly one

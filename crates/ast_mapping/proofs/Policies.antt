@@ -217,7 +217,7 @@ module _ (holding : Left → ℕ → Words → Words → Words) (end : Counted �
     record Reads (f : Found) (nodes′ spans′ : Words) (r : Told-answer) : Type 0 where
       answer : policyTold r ≡ policyAnswered (mapTree x f)
       table : nodes′ ≡ nodesHeld holding (mapTree x f) nodes
-      strings : spans′ ≡ spansHeld holding (mapTree x f) spans
+      spanned : spans′ ≡ spansHeld holding (mapTree x f) spans
 
     module _ (long : spanWords ≤ length spans) (a : Answer) (nodes′ : Words) where
       -- the counted words of the span table
@@ -237,7 +237,7 @@ module _ (holding : Left → ℕ → Words → Words → Words) (end : Counted �
           record {
             answer = f .0 ∙ ap (λ (b : TreeAnswer). record { answer = b; policy = noPolicy }) e;
             table = k;
-            strings =
+            spanned =
                 rw (f .1, same, spare-kept (spansLeft n) (left-unfilled n h) front front-long (end (numbers (r .policy))))
                 (way .front (spansLeft n) spanWords [] spans (omega arith) long);
           }
@@ -254,7 +254,7 @@ module _ (holding : Left → ℕ → Words → Words → Words) (end : Counted �
           record {
             answer = told-answer ∙ settled-answer t q m ∙ ap (λ (n : Mapped (Policy Span)). policyAnswered (judged t n)) is;
             table = k ∙ settled-nodes t m h nodes ∙ ap (λ (n : Mapped (Policy Span)). nodesHeld holding (judged t n) nodes) is;
-            strings =
+            spanned =
                 rw (s .rows, number, counts, settled-spans t q m h few front front-long) (spans-front t m few spans long)
                 ∙ ap (λ (n : Mapped (Policy Span)). spansHeld holding (judged t n) spans) is;
           }
@@ -293,4 +293,4 @@ module _ (holding : Left → ℕ → Words → Words → Words) (end : Counted �
             let whole : length s′ ≡ spanWords = same ∙ front-long in
             let f = mapped-reads (findTree stringSet (length nodes) x) (right (length nodes) x) e k r s′ m in
             rw (le-ltb (length spans) spanWords long, u, take-at s′ (drop spanWords spans) spanWords whole, drop-at s′ (drop spanWords spans) spanWords whole, c)
-            (f .answer, (f .table, f .strings))
+            (f .answer, (f .table, f .spanned))

@@ -1,6 +1,6 @@
 -- A lookup's walk over the children of an object. Assumes nothing.
 use mathlib.Core.Path.{_≡_, refl, ap, _∙_}
-use Prim.Native.Nat.{ℕ, suc, _+_, _-_, _≤_, _<_}
+use Prim.Native.Nat.{ℕ, suc, _+_, _≤_, _<_}
 use native.Mathlib.Omega.{arith}
 use mathlib.Core.Bool.{Bool, true, false, cond}
 use mathlib.Core.Option.{some}
@@ -25,10 +25,6 @@ pub record Passed (w : Words) (x : Text) (n name next : ℕ) (r : Found) : Type 
   pub place : next ≡ suc n + sizes before
   pub found : foundAs (nodeAt w x) r ≡ lookup name before
   pub is : FoundIf (Held w x) r
-
--- the number of a node, from that of its first child
-pub before-first : (n : ℕ) → n + 1 - 1 ≡ n
-before-first n = omega arith
 
 module _ (w : Words) (x : Text) (n : ℕ) (h : Held w x n) (name : ℕ) where
   pub none-passed : Passed w x n name (n + 1) Nothing

@@ -2,13 +2,13 @@
 use mathlib.Core.Path.{_≡_, sym, ap, _∙_}
 use Prim.Native.Nat.{ℕ, _-_, _+_, _≤_, _<_}
 use native.Mathlib.Numerals.{add-one-le}
-use native.Mathlib.Nat.{le-refl}
+use native.Mathlib.Nat.{le-refl, not-le-of-lt}
 use borrow.Author.Count.{falls, below-more}
 use Rattle.cel_text.specs.Tree.{Kind, array}
 use Rattle.cel_text.specs.Reading.{maxNodes}
 use Rattle.cel_text.specs.Table.{stringKind, kindNumber, word}
 use Rattle.cel_policy.specs.Mapping.{bad, unexpectedType}
-use Rattle.ast_mapping.proofs.Counts.{lt-as, end-as, turn-first, turn-past, turn-later, none-between, fits-node}
+use Rattle.ast_mapping.proofs.Counts.{lt-as, end-as, turn-first, turn-past, turn-later, fits-node}
 use Rattle.ast_mapping.proofs.View.{RowRead, row-read}
 use Rattle.ast_mapping.proofs.Lists.{tabled-row, tabled-small, wrong-array, no-string-at, all-strings}
 use Rattle.ast_mapping.proofs.Parts.{small-of}
@@ -73,7 +73,7 @@ add-t11 c = let s = c .before .before .before .before .before .before .before in
 loop-holds : tie.Need-loop-holds Inv-loop μ-loop
 loop-holds c =
     let s = c .before .before .before .before .before .before .before in
-    (le-refl (s .args .list .0 + 1), turn-first (whole (c .before .before .before .before .before) .past) (s .pre .0 .begun), λ i a b. absurd (none-between a b))
+    (le-refl (s .args .list .0 + 1), turn-first (whole (c .before .before .before .before .before) .past) (s .pre .0 .begun), λ i a b. absurd (not-le-of-lt b a))
 
 read-row-requires-2 : tie.Need-read-row-requires-2 Inv-loop μ-loop
 read-row-requires-2 c κs = tt

@@ -2,14 +2,14 @@
 -- nothing.
 use Rattle.ast_mapping.proofs.Counts.{le-as, lt-as}
 use mathlib.Core.Path.{_≡_, refl, sym, _∙_}
-use mathlib.Core.Bool.{_&&_}
+use mathlib.Core.Bool.{_&&_, and-assoc}
 use Prim.Native.Nat.{suc, _-_, _≤_}
 use lib.ListN.{length, drop, getD}
 use lib.Dec.{eqb}
 use borrow.Author.Count.{falls}
 use native.Mathlib.Numerals.{add-one, add-one-le}
 use Rattle.cel_policy.specs.Names.{same}
-use Rattle.ast_mapping.proofs.Names.{same-lengths, same-step, same-end, and-assoc}
+use Rattle.ast_mapping.proofs.Names.{same-lengths, same-step, same-end}
 use Rattle.ast_mapping.proofs.name.equal.Statement.{statement}
 use Rattle.ast_mapping.proofs.name.equal.Tie as tie
 use native.Mathlib.Omega.{arith}
@@ -49,9 +49,12 @@ loop-again c =
     let y = b8 .args .b .now in
     let i = b4 .loop .i in
     let more = c .before .before .before .loop-test .taken in
-    let both = b4 .loop .inv .1 in
-    (add-one-le more, both, b4 .loop .inv .2 ∙ rw (add-one, same-step x y i more (lt-as both more), c .still .ensures)
-    (and-assoc (b4 .loop .so) (eqb (getD x i 0) (getD y i 0)) (same (drop (suc i) x) (drop (suc i) y))))
+    let both = b4 .loop .inv .1 in (
+      add-one-le more,
+      both,
+      b4 .loop .inv .2 ∙ rw (add-one, same-step x y i more (lt-as both more), c .still .ensures)
+          (sym (and-assoc (b4 .loop .so) (eqb (getD x i 0) (getD y i 0)) (same (drop (suc i) x) (drop (suc i) y)))),
+    )
 
 returns-2 : tie.Need-returns-2 Inv-loop μ-loop
 returns-2 c =

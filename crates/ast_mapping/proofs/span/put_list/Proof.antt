@@ -122,10 +122,9 @@ loop-less c = falls _ _ (c .before .before .before .before .if1 .taken)
 loop-again : tie.Need-loop-again Inv-loop μ-loop
 loop-again c =
     let b4 = c .before .before .before .before in
-    let b7 = b4 .before .before .before in
-    let b10 = b7 .before .before .before in
+    let l = b4 .before .before .before in
+    let b10 = l .before .before .before in
     let s = b10 .before .before .before in
-    let l = b7 in
     let r = string (c .before .before .before) in (
       turn-later (l .loop .inv .0),
       add-one-le (b4 .if1 .taken),
