@@ -4,6 +4,7 @@ use Prim.Native.Nat.{ℕ, _+_, _*_, _^_, _≤_, _<_}
 use native.Mathlib.Omega.{arith}
 use mir.Syntax.{w64}
 use mir.Val.{Fits}
+use Rattle.cel_text.specs.Reading.{maxNodes}
 
 pub le-as : {a b x y : ℕ} → a ≡ x → b ≡ y → x ≤ y → a ≤ b
 le-as e f h = omega arith
@@ -26,21 +27,11 @@ turn-later h = omega arith
 pub none-between : {i n : ℕ} → n ≤ i → i < n → ⊥
 none-between h k = omega arith
 
--- node i's row: its number, and its words and their bytes
-module _ {i : ℕ} (small : i < 256) where
-  pub fits-node : Fits w64 (i + 1)
-  fits-node = record { fits = omega arith }
+-- node i's number, and the next
+pub fits-node : {i : ℕ} → i < maxNodes → Fits w64 (i + 1)
+fits-node h = record { fits = omega arith }
 
-  pub fits-row : Fits w64 (8 * i)
-  fits-row = record { fits = omega arith }
-
-  pub fits-word : (j : ℕ) → j < 8 → Fits w64 (8 * i + j)
-  fits-word j h = record { fits = omega arith }
-
-  pub fits-bytes : (j : ℕ) → j < 8 → Fits w64 ((8 * i + j) * 4)
-  fits-bytes j h = record { fits = omega arith }
-
--- the same for string i's span
+-- the words and bytes of string i's span
 module _ {i : ℕ} (near : i < 2 ^ 60) where
   pub fits-string : Fits w64 (i + 1)
   fits-string = record { fits = omega arith }
@@ -57,10 +48,7 @@ module _ {i : ℕ} (near : i < 2 ^ 60) where
   pub fits-to-bytes : Fits w64 ((2 * i + 1) * 4)
   fits-to-bytes = record { fits = omega arith }
 
--- the words of a row, and of a span, that is in its table
-pub row-word : (i : ℕ) {j l : ℕ} → 8 * i + 8 ≤ l → j < 8 → 8 * i + j < l
-row-word i h k = omega arith
-
+-- a span that is in its table
 pub span-from : (i : ℕ) {l : ℕ} → 2 * i + 2 ≤ l → 2 * i < l
 span-from i h = omega arith
 

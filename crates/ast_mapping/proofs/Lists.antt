@@ -9,11 +9,12 @@ use lib.Seq.{slice}
 use borrow.Author.Tests.{eqb-false}
 use Rattle.cel_text.specs.Byte.{Text}
 use Rattle.cel_text.specs.Tree.{Kind, array, object, function}
-use Rattle.cel_text.specs.Table.{Words, kindNumber, stringKind}
+use Rattle.cel_text.specs.Reading.{maxNodes}
+use Rattle.cel_text.specs.Table.{Words, rowWords, kindNumber, stringKind, word}
 use Rattle.cel_policy.specs.Policy.{Span}
 use Rattle.cel_policy.specs.Mapping.{Node, leaf, branch, Nodes, childless, _▹_∶_, Refusal, Mapped, good, bad, andThen, unexpectedType, element, elements, stringArray}
 use Rattle.cel_policy.specs.Laws.Counts.{size, sizes}
-use Rattle.ast_mapping.specs.View.{word, spanOf, spansFrom, stringsOf, nodeAt, number, children, Stands, Held, Tabled}
+use Rattle.ast_mapping.specs.View.{spanOf, spansFrom, stringsOf, nodeAt, number, children, Stands, Held, Tabled}
 use Rattle.ast_mapping.proofs.View.{no-string, Begins, all, less, begins-none, past, within, later, Child, next-child, last-child}
 
 spans-more : (w : Words) (k n : ℕ) → spansFrom w n k ++ (spanOf w (n + k) ∷ []) ≡ spansFrom w n (suc k)
@@ -40,10 +41,10 @@ module _ (a k : ℕ) where
 pub tabled : (w : Words) (x : Text) (n : ℕ) → Held w x n → Tabled w n
 tabled w x n h = record { begun = later w x n h; few = omega (arith, past w x n h, h .small); ended = omega (arith, past w x n h, within w x n h) }
 
-pub tabled-row : {w : Words} {n : ℕ} → Tabled w n → (i : ℕ) → i < word w n 7 → 8 * i + 8 ≤ length w
+pub tabled-row : {w : Words} {n : ℕ} → Tabled w n → (i : ℕ) → i < word w n 7 → rowWords * suc i ≤ length w
 tabled-row t i h = omega (arith, t .ended)
 
-pub tabled-small : {w : Words} {n : ℕ} → Tabled w n → (i : ℕ) → i < word w n 7 → i < 256
+pub tabled-small : {w : Words} {n : ℕ} → Tabled w n → (i : ℕ) → i < word w n 7 → i < maxNodes
 tabled-small t i h = omega (arith, t .few)
 
 module _ (w : Words) (x : Text) where

@@ -1,34 +1,42 @@
 -- What the larger steps of the mapping come to in the definitions, where their parts have answered. Assumes nothing.
 use mathlib.Core.Path.{_≡_, refl, sym, ap, subst, _∙_}
-use Prim.Native.Nat.{ℕ, suc, _+_, _≤_}
+use Prim.Native.Nat.{ℕ, _<_}
 use native.Mathlib.Omega.{arith}
 use mathlib.Core.List.{List}
-use mathlib.Core.Option.{Option, none, some}
+use lib.Dec.{lit<}
 use Rattle.cel_text.specs.Byte.{Text}
-use Rattle.cel_text.specs.Tree.{object, function}
-use Rattle.cel_text.specs.Table.{Words}
-use Rattle.cel_policy.specs.Policy.{Span, Policy}
-use Rattle.cel_policy.specs.Mapping.{Node, Nodes, childless, _▹_∶_, Refusal, Mapped, good, bad, andThen, Typed, Request, Only, first, second, exactlyOne, typed, lookup, present, stringArray, headersOf, listOf, responseLists, responsePart, listAt, requestLists, requestOf, requestPart, certified, certificationParts, certificationOf, validationArgs, firstOf, firstChild, mapping}
+use Rattle.cel_text.specs.Tree.{object}
+use Rattle.cel_text.specs.Reading.{maxNodes}
+use Rattle.cel_text.specs.Table.{Words, word}
+use Rattle.cel_text.specs.Laws.Limit.{clash}
+use Rattle.cel_policy.specs.Names.{ValidationArgs, Certification, RequestCertification}
+use Rattle.cel_policy.specs.Policy.{Span}
+use Rattle.cel_policy.specs.Mapping.{Node, Nodes, childless, _▹_∶_, Refusal, good, bad, andThen, exactlyOne, typed, lookup, present, headersOf, listOf, responseLists, responsePart, listAt, requestLists, requestOf, requestPart, certified, certificationParts, certificationOf, validationArgs, firstOf, firstChild, mapping}
 use Rattle.cel_policy.specs.Laws.Natural.{overMapped, overOnly}
-use Rattle.ast_mapping.specs.View.{word, stringsOf, nodeAt, children, typedAt, Held, Tabled}
-use Rattle.ast_mapping.specs.Steps.{foundAs, numbered, FoundIf, OnlyIf, Looked, told, uses, checkAs, onlyAs, Listing, Headed, Requested, Responded, requestAs, RequestIn, certifiedAs, mappedAs, MappedIn, Maps}
+use Rattle.parser.specs.declared.Node.{Node as Numbered}
+use Rattle.ast_mapping.specs.View.{stringsOf, nodeAt, children, typedAt, Held, Tabled}
+use Rattle.ast_mapping.specs.Steps.{foundAs, numbered, FoundIf, OnlyIf, Looked, refusalTold, fieldsUsed, Small, Checked, ListChecked, onlyAs, Listing, HeadersFound, Requested, Responded, requestAs, RequestIn, certifiedAs, mappedAs, MappedIn, Maps}
 use Rattle.ast_mapping.specs.declared.row.Found.{Found}
 use Rattle.ast_mapping.specs.declared.row.Found.the-variants.{At, Nothing}
 use Rattle.ast_mapping.specs.declared.mapping.Refusal.{Refusal as Told}
-use Rattle.ast_mapping.specs.declared.mapping.Check.{Check}
 use Rattle.ast_mapping.specs.declared.mapping.Check.the-variants as check
 use Rattle.ast_mapping.specs.declared.mapping.Only.{Only as Which}
 use Rattle.ast_mapping.specs.declared.mapping.Only.the-variants as which
 use Rattle.ast_mapping.specs.declared.mapping.Listed.the-variants as listed
 use Rattle.ast_mapping.specs.declared.mapping.Headers.{Headers}
 use Rattle.ast_mapping.specs.declared.mapping.Headers.the-variants as headers
-use Rattle.ast_mapping.specs.declared.mapping.Request.{Request as Part}
-use Rattle.ast_mapping.specs.declared.mapping.Request.the-variants as part
+use Rattle.ast_mapping.specs.declared.mapping.Request.{Request as Asked}
+use Rattle.ast_mapping.specs.declared.mapping.Request.the-variants as asked
 use Rattle.ast_mapping.specs.declared.mapping.Mapped.{Mapped as Told-policy}
 use Rattle.ast_mapping.specs.declared.mapping.Mapped.the-variants as policy
-use Rattle.parser.specs.declared.Node.{Node as Numbered}
-use Rattle.cel_text.specs.Laws.Limit.{clash}
-use Rattle.ast_mapping.proofs.View.{Begins, all, less, begins-none, later, Child, next-child, last-child}
+use Rattle.ast_mapping.proofs.View.{Begins, all, less, begins-none, few, later, Child, next-child, last-child}
+use Rattle.ast_mapping.proofs.Lists.{tabled}
+
+-- ---- refusals
+
+-- the node of a refusal that was told
+pub small-of : {r : Told} {f : Refusal} → refusalTold r ≡ f → f .node < maxNodes → Small r
+small-of e = subst (λ (n : ℕ). n < maxNodes) (sym (ap (λ (f : Refusal). f .node) e))
 
 -- ---- exactly one
 
@@ -49,133 +57,138 @@ pub only-as : {B : Type 0} (f : ℕ → B) (both neither n : ℕ) (a b : Found) 
     → onlyAs f r ≡ exactlyOne both neither n (foundAs f a) (foundAs f b)
 only-as f both neither n a b r e = only-over f r ∙ ap (overMapped (overOnly f)) e ∙ exactly-over f both neither n a b
 
--- what holds of both holds of the one
-pub only-if : (P : ℕ → Type 0) (both neither n : ℕ) (a b : Found) (r : Which)
+-- what holds of both holds of the one, and a refusal is the object's
+pub only-if : (P : ℕ → Type 0) (both neither n : ℕ) (a b : Found) (r : Which) → n < maxNodes
     → onlyAs numbered r ≡ exactlyOne both neither n (foundAs numbered a) (foundAs numbered b) → FoundIf P a → FoundIf P b → OnlyIf P r
-only-if P both neither n a b (which.Refused r) e p q = tt
-only-if P both neither n (At a) (At b) (which.First m) e p q = clash (cc)
-only-if P both neither n (At a) Nothing (which.First m) e p q = let z : a .0 ≡ m .0 = cc in subst P z p
-only-if P both neither n Nothing (At b) (which.First m) e p q = clash (cc)
-only-if P both neither n Nothing Nothing (which.First m) e p q = clash (cc)
-only-if P both neither n (At a) (At b) (which.Second m) e p q = clash (cc)
-only-if P both neither n (At a) Nothing (which.Second m) e p q = clash (cc)
-only-if P both neither n Nothing (At b) (which.Second m) e p q = let z : b .0 ≡ m .0 = cc in subst P z q
-only-if P both neither n Nothing Nothing (which.Second m) e p q = clash (cc)
+only-if P both neither n (At a) (At b) (which.Refused r) h e p q =
+    let z : refusalTold r ≡ record { refusal = both; name = 0; kind = 0; node = n } = cc in small-of z h
+only-if P both neither n (At a) Nothing (which.Refused r) h e p q = clash (cc)
+only-if P both neither n Nothing (At b) (which.Refused r) h e p q = clash (cc)
+only-if P both neither n Nothing Nothing (which.Refused r) h e p q =
+    let z : refusalTold r ≡ record { refusal = neither; name = 0; kind = 0; node = n } = cc in small-of z h
+only-if P both neither n (At a) (At b) (which.First m) h e p q = clash (cc)
+only-if P both neither n (At a) Nothing (which.First m) h e p q = let z : a .0 ≡ m .0 = cc in subst P z p
+only-if P both neither n Nothing (At b) (which.First m) h e p q = clash (cc)
+only-if P both neither n Nothing Nothing (which.First m) h e p q = clash (cc)
+only-if P both neither n (At a) (At b) (which.Second m) h e p q = clash (cc)
+only-if P both neither n (At a) Nothing (which.Second m) h e p q = clash (cc)
+only-if P both neither n Nothing (At b) (which.Second m) h e p q = let z : b .0 ≡ m .0 = cc in subst P z q
+only-if P both neither n Nothing Nothing (which.Second m) h e p q = clash (cc)
 
 -- ---- the two parts of a policy
 
-certified-as : (w : Words) (q : Part) (l : Which)
+certified-as : (w : Words) (q : Asked) (l : Which)
     → mappedAs w (certifiedAs q l) ≡ andThen (requestAs w q) (λ r. andThen (onlyAs (stringsOf w) l) (λ k. good (certified r k)))
-certified-as w part.Absent (which.First l) = refl
-certified-as w part.Absent (which.Second l) = refl
-certified-as w part.Absent (which.Refused r) = refl
-certified-as w (part.Lists h q) (which.First l) = refl
-certified-as w (part.Lists h q) (which.Second l) = refl
-certified-as w (part.Lists h q) (which.Refused r) = refl
-certified-as w (part.Refused r) l = refl
+certified-as w asked.Absent (which.First l) = refl
+certified-as w asked.Absent (which.Second l) = refl
+certified-as w asked.Absent (which.Refused r) = refl
+certified-as w (asked.Lists h q) (which.First l) = refl
+certified-as w (asked.Lists h q) (which.Second l) = refl
+certified-as w (asked.Lists h q) (which.Refused r) = refl
+certified-as w (asked.Refused r) l = refl
 
-certified-in : (w : Words) (q : Part) (l : Which) → RequestIn w q → OnlyIf (Tabled w) l → MappedIn w (certifiedAs q l)
-certified-in w part.Absent (which.First l) h k = k
-certified-in w part.Absent (which.Second l) h k = k
-certified-in w part.Absent (which.Refused r) h k = tt
-certified-in w (part.Lists h q) (which.First l) a k = (a .0, a .1, k)
-certified-in w (part.Lists h q) (which.Second l) a k = (a .0, a .1, k)
-certified-in w (part.Lists h q) (which.Refused r) a k = tt
-certified-in w (part.Refused r) l h k = tt
+certified-in : (w : Words) (q : Asked) (l : Which) → RequestIn w q → OnlyIf (Tabled w) l → MappedIn w (certifiedAs q l)
+certified-in w asked.Absent (which.First l) h k = k
+certified-in w asked.Absent (which.Second l) h k = k
+certified-in w asked.Absent (which.Refused r) h k = k
+certified-in w (asked.Lists h q) (which.First l) a k = (a .0, a .1, k)
+certified-in w (asked.Lists h q) (which.Second l) a k = (a .0, a .1, k)
+certified-in w (asked.Lists h q) (which.Refused r) a k = k
+certified-in w (asked.Refused r) l h k = h
 
 module _ (w : Words) (x : Text) (n : ℕ) where
   -- ---- a list of strings that has to be there
 
   module _ (name : ℕ) where
-    pub list-missing : {r : Told} → Looked w x n name Nothing → told r ≡ uses 10 name 0 n → Listing w x n name (listed.Refused r)
+    pub list-missing : {r : Told} → n < maxNodes → Looked w x n name Nothing → refusalTold r ≡ fieldsUsed 10 name n → Listing w x n name (listed.Refused r)
     unfolding listAt present
-    list-missing l e = record { is = rw (sym (l .found)) (ap bad e); inside = tt }
+    list-missing h l e = record { is = rw (sym (l .found)) (ap bad e); inside = small-of e h }
 
-    pub list-wrong : {m : Numbered} {r : Told} → Looked w x n name (At m) → bad (told r) ≡ stringArray name (nodeAt w x (m .0)) → Listing w x n name (listed.Refused r)
+    pub list-wrong : {m : Numbered} {r : Told} → Looked w x n name (At m) → ListChecked w (m .0) name (check.Refused r) → Listing w x n name (listed.Refused r)
     unfolding listAt present
-    list-wrong l e = record { is = rw (sym (l .found)) e; inside = tt }
+    list-wrong l k = record { is = rw (sym (l .found)) (k .is x (l .held)); inside = k .inside }
 
-    pub list-right : {m : Numbered} → Looked w x n name (At m) → Tabled w (m .0) → good (stringsOf w (m .0)) ≡ stringArray name (nodeAt w x (m .0))
-        → Listing w x n name (listed.At m)
+    pub list-right : {m : Numbered} → Looked w x n name (At m) → ListChecked w (m .0) name check.Right → Listing w x n name (listed.At m)
     unfolding listAt present
-    list-right l t e = record { is = rw (sym (l .found)) e; inside = t }
+    list-right {m} l k = record { is = rw (sym (l .found)) (k .is x (l .held)); inside = tabled w x (m .0) (l .held) }
 
     -- ---- a list of strings that may be absent
 
     abbrev pub Wanted : Headers → Type 0
-    Wanted r = Headed w r (listOf name (lookup name (children (nodeAt w x n))))
+    Wanted r = HeadersFound w r (listOf name (lookup name (children (nodeAt w x n))))
 
     pub headers-none : Looked w x n name Nothing → Wanted (headers.Good Nothing)
     unfolding listOf
     headers-none l = record { is = rw (sym (l .found)); inside = tt }
 
     module _ {m : Numbered} (l : Looked w x n name (At m)) where
-      pub headers-untyped : {r : Told} → bad (told r) ≡ typed object 15 (nodeAt w x (m .0)) → Wanted (headers.Refused r)
+      pub headers-untyped : {r : Told} → Checked w x (m .0) 15 (check.Refused r) → Wanted (headers.Refused r)
       unfolding listOf
-      headers-untyped e = record { is = rw (sym (l .found), sym e); inside = tt }
+      headers-untyped t = record { is = rw (sym (l .found), sym (t .is)); inside = t .inside }
 
-      module _ (t : good (typedAt w x (m .0)) ≡ typed object 15 (nodeAt w x (m .0))) where
+      module _ (t : Checked w x (m .0) 15 check.Right) where
         pub headers-empty : Looked w x (m .0) 16 Nothing → Wanted (headers.Good Nothing)
         unfolding listOf headersOf
-        headers-empty k = record { is = rw (sym (l .found), sym t, sym (k .found)); inside = tt }
+        headers-empty k = record { is = rw (sym (l .found), sym (t .is), sym (k .found)); inside = tt }
 
-        pub headers-wrong : {i : Numbered} {r : Told} → Looked w x (m .0) 16 (At i) → bad (told r) ≡ stringArray name (nodeAt w x (i .0)) → Wanted (headers.Refused r)
-        unfolding listOf headersOf
-        headers-wrong k e = record { is = rw (sym (l .found), sym t, sym (k .found), sym e); inside = tt }
+        module _ {i : Numbered} (k : Looked w x (m .0) 16 (At i)) where
+          pub headers-wrong : {r : Told} → ListChecked w (i .0) name (check.Refused r) → Wanted (headers.Refused r)
+          unfolding listOf headersOf
+          headers-wrong e = record { is = rw (sym (l .found), sym (t .is), sym (k .found), sym (e .is x (k .held))); inside = e .inside }
 
-        pub headers-right : {i : Numbered} → Looked w x (m .0) 16 (At i) → Tabled w (i .0) → good (stringsOf w (i .0)) ≡ stringArray name (nodeAt w x (i .0))
-            → Wanted (headers.Good (At i))
-        unfolding listOf headersOf
-        headers-right k d e = record { is = rw (sym (l .found), sym t, sym (k .found), sym e); inside = d }
+          pub headers-right : ListChecked w (i .0) name check.Right → Wanted (headers.Good (At i))
+          unfolding listOf headersOf
+          headers-right e =
+              record { is = rw (sym (l .found), sym (t .is), sym (k .found), sym (e .is x (k .held))); inside = tabled w x (i .0) (k .held) }
 
   -- ---- the request part
 
-  abbrev pub Lists : Part → Type 0
-  Lists r = Requested w r (andThen (typed object 8 (nodeAt w x n)) requestLists)
+  abbrev pub Lists : Asked → Type 0
+  Lists r = Requested w r (andThen (typed object RequestCertification (nodeAt w x n)) requestLists)
 
-  pub request-untyped : {r : Told} → bad (told r) ≡ typed object 8 (nodeAt w x n) → Lists (part.Refused r)
-  request-untyped e = record { is = rw (sym e); inside = tt }
+  pub request-untyped : {r : Told} → Checked w x n 8 (check.Refused r) → Lists (asked.Refused r)
+  request-untyped t = record { is = rw (sym (t .is)); inside = t .inside }
 
-  module _ (t : good (typedAt w x n) ≡ typed object 8 (nodeAt w x n)) where
-    pub request-first : {r : Told} → Listing w x n 9 (listed.Refused r) → Lists (part.Refused r)
+  module _ (t : Checked w x n 8 check.Right) where
+    pub request-first : {r : Told} → Listing w x n 9 (listed.Refused r) → Lists (asked.Refused r)
     unfolding requestLists
-    request-first l = record { is = rw (sym t, sym (l .is)); inside = tt }
+    request-first l = record { is = rw (sym (t .is), sym (l .is)); inside = l .inside }
 
     module _ {h : Numbered} (l : Listing w x n 9 (listed.At h)) where
-      pub request-second : {r : Told} → Listing w x n 10 (listed.Refused r) → Lists (part.Refused r)
+      pub request-second : {r : Told} → Listing w x n 10 (listed.Refused r) → Lists (asked.Refused r)
       unfolding requestLists
-      request-second k = record { is = rw (sym t, sym (l .is), sym (k .is)); inside = tt }
+      request-second k = record { is = rw (sym (t .is), sym (l .is), sym (k .is)); inside = k .inside }
 
-      pub request-both : {q : Numbered} → Listing w x n 10 (listed.At q) → Lists (part.Lists h q)
+      pub request-both : {q : Numbered} → Listing w x n 10 (listed.At q) → Lists (asked.Lists h q)
       unfolding requestLists
-      request-both k = record { is = rw (sym t, sym (l .is), sym (k .is)); inside = (l .inside, k .inside) }
+      request-both k = record { is = rw (sym (t .is), sym (l .is), sym (k .is)); inside = (l .inside, k .inside) }
 
   -- which of two keys is there
   pub record Chosen (both neither a b : ℕ) (r : Which) : Type 0 where
     pub is : onlyAs (nodeAt w x) r ≡ exactlyOne both neither n (lookup a (children (nodeAt w x n))) (lookup b (children (nodeAt w x n)))
     pub held : OnlyIf (Held w x) r
 
-  pub chosen : (both neither : ℕ) {a b : ℕ} {f g : Found} → Looked w x n a f → Looked w x n b g → (r : Which)
+  pub chosen : (both neither : ℕ) {a b : ℕ} {f g : Found} → Held w x n → Looked w x n a f → Looked w x n b g → (r : Which)
       → onlyAs numbered r ≡ exactlyOne both neither n (foundAs numbered f) (foundAs numbered g) → Chosen both neither a b r
-  chosen both neither {a} {b} {f} {g} l k r e =
+  chosen both neither {a} {b} {f} {g} h l k r e =
       record {
         is = only-as (nodeAt w x) both neither n f g r e ∙ cc (l .found, k .found);
-        held = only-if (Held w x) both neither n f g r e (l .held) (k .held);
+        held = only-if (Held w x) both neither n f g r (few w x n h) e (l .held) (k .held);
       }
 
-  abbrev pub RequestPart : Part → Type 0
+  abbrev pub RequestPart : Asked → Type 0
   RequestPart r = Requested w r (requestPart (typedAt w x n))
 
-  pub request-absent : {m : Numbered} → Chosen 13 14 6 7 (which.First m) → RequestPart part.Absent
+  pub request-absent : {m : Numbered} → Chosen 13 14 6 7 (which.First m) → RequestPart asked.Absent
   unfolding requestPart requestOf
   request-absent c = record { is = rw (sym (c .is)); inside = tt }
 
-  pub request-refused : {r : Told} → Chosen 13 14 6 7 (which.Refused r) → RequestPart (part.Refused r)
+  pub request-refused : {r : Told} → Chosen 13 14 6 7 (which.Refused r) → RequestPart (asked.Refused r)
   unfolding requestPart
-  request-refused c = record { is = rw (sym (c .is)); inside = tt }
+  request-refused c = record { is = rw (sym (c .is)); inside = c .held }
 
-  pub request-present : {m : Numbered} {r : Part} → Chosen 13 14 6 7 (which.Second m)
-      → Requested w r (andThen (typed object 8 (nodeAt w x (m .0))) requestLists) → RequestPart r
+  pub request-present : {m : Numbered} {r : Asked} → Chosen 13 14 6 7 (which.Second m)
+      → Requested w r (andThen (typed object RequestCertification (nodeAt w x (m .0))) requestLists) → RequestPart r
   unfolding requestPart requestOf
   request-present c l = record { is = l .is ∙ rw (sym (c .is)); inside = l .inside }
 
@@ -184,70 +197,69 @@ module _ (w : Words) (x : Text) (n : ℕ) where
   abbrev pub ResponsePart : Which → Type 0
   ResponsePart r = Responded w r (responsePart (typedAt w x n))
 
-  pub response-missing : {r : Told} → Looked w x n 11 Nothing → told r ≡ uses 10 11 0 n → ResponsePart (which.Refused r)
+  pub response-missing : {r : Told} → n < maxNodes → Looked w x n 11 Nothing → refusalTold r ≡ fieldsUsed 10 11 n → ResponsePart (which.Refused r)
   unfolding responsePart present
-  response-missing l e = record { is = rw (sym (l .found)) (ap bad e); inside = tt }
+  response-missing h l e = record { is = rw (sym (l .found)) (ap bad e); inside = small-of e h }
 
   module _ {m : Numbered} (l : Looked w x n 11 (At m)) where
-    pub response-untyped : {r : Told} → bad (told r) ≡ typed object 12 (nodeAt w x (m .0)) → ResponsePart (which.Refused r)
+    pub response-untyped : {r : Told} → Checked w x (m .0) 12 (check.Refused r) → ResponsePart (which.Refused r)
     unfolding responsePart present
-    response-untyped e = record { is = rw (sym (l .found), sym e); inside = tt }
+    response-untyped t = record { is = rw (sym (l .found), sym (t .is)); inside = t .inside }
 
-    module _ (t : good (typedAt w x (m .0)) ≡ typed object 12 (nodeAt w x (m .0))) where
+    module _ (t : Checked w x (m .0) 12 check.Right) where
       abbrev At-key : ℕ → Headers → Type 0
-      At-key name r = Headed w r (listOf name (lookup name (children (nodeAt w x (m .0)))))
+      At-key name r = HeadersFound w r (listOf name (lookup name (children (nodeAt w x (m .0)))))
 
       pub response-first : {r : Told} → At-key 13 (headers.Refused r) → ResponsePart (which.Refused r)
       unfolding responsePart present responseLists
-      response-first h = record { is = rw (sym (l .found), sym t, sym (h .is)); inside = tt }
+      response-first h = record { is = rw (sym (l .found), sym (t .is), sym (h .is)); inside = h .inside }
 
       module _ {f : Found} (h : At-key 13 (headers.Good f)) where
         pub response-second : {r : Told} → At-key 14 (headers.Refused r) → ResponsePart (which.Refused r)
         unfolding responsePart present responseLists
-        response-second k = record { is = rw (sym (l .found), sym t, sym (h .is), sym (k .is)); inside = tt }
+        response-second k = record { is = rw (sym (l .found), sym (t .is), sym (h .is), sym (k .is)); inside = k .inside }
 
         pub response-one : {g : Found} → At-key 14 (headers.Good g) → (r : Which)
             → onlyAs numbered r ≡ exactlyOne 15 16 (m .0) (foundAs numbered f) (foundAs numbered g) → ResponsePart r
         unfolding responsePart present responseLists
         response-one {g} k r e =
             record {
-              is = only-as (stringsOf w) 15 16 (m .0) f g r e ∙ rw (sym (l .found), sym t, sym (h .is), sym (k .is));
-              inside = only-if (Tabled w) 15 16 (m .0) f g r e (h .inside) (k .inside);
+              is = only-as (stringsOf w) 15 16 (m .0) f g r e ∙ rw (sym (l .found), sym (t .is), sym (h .is), sym (k .is));
+              inside = only-if (Tabled w) 15 16 (m .0) f g r (few w x (m .0) (l .held)) e (h .inside) (k .inside);
             }
 
   -- ---- the policy
 
-  abbrev pub Certification : Told-policy → Type 0
-  Certification r = Maps w r (andThen (typed object 5 (nodeAt w x n)) certificationParts)
+  abbrev pub Certified : Told-policy → Type 0
+  Certified r = Maps w r (andThen (typed object Certification (nodeAt w x n)) certificationParts)
 
-  pub certification-untyped : {r : Told} → bad (told r) ≡ typed object 5 (nodeAt w x n) → Certification (policy.Refused r)
-  certification-untyped e = record { is = rw (sym e); inside = tt }
+  pub certification-untyped : {r : Told} → Checked w x n 5 (check.Refused r) → Certified (policy.Refused r)
+  certification-untyped t = record { is = rw (sym (t .is)); inside = t .inside }
 
-  pub certification-parts : {q : Part} {l : Which} → good (typedAt w x n) ≡ typed object 5 (nodeAt w x n) → RequestPart q → ResponsePart l
-      → Certification (certifiedAs q l)
+  pub certification-parts : {q : Asked} {l : Which} → Checked w x n 5 check.Right → RequestPart q → ResponsePart l → Certified (certifiedAs q l)
   unfolding certificationParts
   certification-parts {q} {l} t h k =
-      record { is = certified-as w q l ∙ rw (sym t, sym (h .is), sym (k .is)); inside = certified-in w q l (h .inside) (k .inside) }
+      record { is = certified-as w q l ∙ rw (sym (t .is), sym (h .is), sym (k .is)); inside = certified-in w q l (h .inside) (k .inside) }
 
   abbrev pub Arguments : Told-policy → Type 0
-  Arguments r = Maps w r (andThen (typed object 2 (nodeAt w x n)) validationArgs)
+  Arguments r = Maps w r (andThen (typed object ValidationArgs (nodeAt w x n)) validationArgs)
 
-  pub arguments-untyped : {r : Told} → bad (told r) ≡ typed object 2 (nodeAt w x n) → Arguments (policy.Refused r)
-  arguments-untyped e = record { is = rw (sym e); inside = tt }
+  pub arguments-untyped : {r : Told} → Checked w x n 2 (check.Refused r) → Arguments (policy.Refused r)
+  arguments-untyped t = record { is = rw (sym (t .is)); inside = t .inside }
 
-  module _ (t : good (typedAt w x n) ≡ typed object 2 (nodeAt w x n)) where
+  module _ (t : Checked w x n 2 check.Right) where
     pub arguments-skip : {m : Numbered} → Chosen 11 12 3 4 (which.First m) → Arguments policy.Skip
     unfolding validationArgs certificationOf
-    arguments-skip c = record { is = rw (sym t, sym (c .is)); inside = tt }
+    arguments-skip c = record { is = rw (sym (t .is), sym (c .is)); inside = tt }
 
     pub arguments-refused : {r : Told} → Chosen 11 12 3 4 (which.Refused r) → Arguments (policy.Refused r)
     unfolding validationArgs
-    arguments-refused c = record { is = rw (sym t, sym (c .is)); inside = tt }
+    arguments-refused c = record { is = rw (sym (t .is), sym (c .is)); inside = c .held }
 
     pub arguments-certified : {m : Numbered} {r : Told-policy} → Chosen 11 12 3 4 (which.Second m)
-        → Maps w r (andThen (typed object 5 (nodeAt w x (m .0))) certificationParts) → Arguments r
+        → Maps w r (andThen (typed object Certification (nodeAt w x (m .0))) certificationParts) → Arguments r
     unfolding validationArgs certificationOf
-    arguments-certified c k = record { is = k .is ∙ rw (sym t, sym (c .is)); inside = k .inside }
+    arguments-certified c k = record { is = k .is ∙ rw (sym (t .is), sym (c .is)); inside = k .inside }
 
 -- ---- the root
 
@@ -257,16 +269,16 @@ first-begins node all = refl
 first-begins node (less s) = first-begins node s
 
 module _ (w : Words) (x : Text) (h : Held w x 0) where
-  pub map-untyped : {r : Told} → bad (told r) ≡ typed function 1 (nodeAt w x 0) → Maps w (policy.Refused r) (mapping (nodeAt w x 0))
+  pub map-untyped : {r : Told} → Checked w x 0 1 (check.Refused r) → Maps w (policy.Refused r) (mapping (nodeAt w x 0))
   unfolding mapping
-  map-untyped e = record { is = rw (sym e); inside = tt }
+  map-untyped t = record { is = rw (sym (t .is)); inside = t .inside }
 
-  module _ (t : good (typedAt w x 0) ≡ typed function 1 (nodeAt w x 0)) where
-    pub map-bare : {r : Told} → word w 0 7 ≡ 1 → told r ≡ uses 9 2 0 0 → Maps w (policy.Refused r) (mapping (nodeAt w x 0))
+  module _ (t : Checked w x 0 1 check.Right) where
+    pub map-bare : {r : Told} → word w 0 7 ≡ 1 → refusalTold r ≡ fieldsUsed 9 2 0 → Maps w (policy.Refused r) (mapping (nodeAt w x 0))
     unfolding mapping firstChild
     map-bare e k =
         let none : childless ≡ children (nodeAt w x 0) = last-child w x 0 h {next = 1} (begins-none (children (nodeAt w x 0))) refl (omega arith) in
-        record { is = rw (sym t, sym none) (ap bad k); inside = tt }
+        record { is = rw (sym (t .is), sym none) (ap bad k); inside = small-of k (lit< tt) }
 
     module _ (e : word w 0 7 ≡ 1 → ⊥) where
       argument : Child w x 0 h childless 1
@@ -275,6 +287,6 @@ module _ (w : Words) (x : Text) (h : Held w x 0) where
       pub argument-held : Held w x 1
       argument-held = argument .is
 
-      pub map-argument : {r : Told-policy} → Maps w r (andThen (typed object 2 (nodeAt w x 1)) validationArgs) → Maps w r (mapping (nodeAt w x 0))
+      pub map-argument : {r : Told-policy} → Maps w r (andThen (typed object ValidationArgs (nodeAt w x 1)) validationArgs) → Maps w r (mapping (nodeAt w x 0))
       unfolding mapping firstChild firstOf
-      map-argument k = record { is = k .is ∙ rw (sym t, first-begins 0 (argument .begins)); inside = k .inside }
+      map-argument k = record { is = k .is ∙ rw (sym (t .is), first-begins 0 (argument .begins)); inside = k .inside }

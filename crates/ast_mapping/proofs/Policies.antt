@@ -1,35 +1,34 @@
--- From the answer of reading a tree, and from a mapping that was settled, to the answer and the tables of reading a policy. Assumes nothing.
+-- From the answer of reading a tree, and from a tree that was mapped, to the answer and the tables of reading a policy. Assumes nothing.
 use mathlib.Core.Path.{_≡_, refl, sym, ap, subst, _∙_}
 use Prim.Native.Nat.{ℕ, zero, suc, _+_, _-_, _*_, _≤_, _<_}
-use native.Mathlib.Nat.{sub-zero, sub-self}
+use native.Mathlib.Nat.{zero-add}
 use native.Mathlib.Omega.{arith}
-use mathlib.Core.Bool.{Bool, true, false, cond}
-use mathlib.Core.List.{List, [], _∷_, _++_, append-nil}
+use mathlib.Core.List.{[], _++_, append-nil, append-assoc}
 use mathlib.Core.Option.{none, some}
-use lib.ListN.{length, take, drop, replicate, length-append, drop-of-length-le}
-use lib.Seq.{length-take-le, take-all}
-use lib.Dec.{ltb, eqb}
-use borrow.Author.Tests.{lt-ltb, le-ltb, ne-eqb, le-leb, lt-leb}
+use lib.ListN.{length, take, drop, replicate, length-append, drop-of-length-le, take-append-drop}
+use lib.Seq.{sets, sets-eq, length-sets, length-take-le, take-all, take-at, drop-at, drop-append-le}
+use lib.Dec.{ltb}
+use borrow.Author.Tests.{lt-ltb, le-ltb, ne-eqb, le-leb}
 use Rattle.cel_text.specs.Byte.{Text, stringByte, ascii, lead}
 use Rattle.cel_text.specs.Tree.{Tree}
-use Rattle.cel_text.specs.Reading.{Fault, syntax, tooDeep, tooMany, Outcome, accepted, refused, read, limits, maxNodes}
-use Rattle.cel_text.specs.Table.{Words, rows, hold, untouched, cleared, filled, nodesLeft, nodeWords}
-use Rattle.cel_text.specs.Answer.{Found, tree, fault, found, faultNumber, findTree, answered, nodesAfter, treeAnswer, treeTable, maxText, Answer as TreeAnswer}
+use Rattle.cel_text.specs.Reading.{syntax, tooDeep, tooMany, Outcome, accepted, refused, read, limits, maxNodes}
+use Rattle.cel_text.specs.Table.{Words, Left, untouched, cleared, filled, rows, hold, holdOver, nodesLeft, nodeWords}
+use Rattle.cel_text.specs.Answer.{Found, tree, fault, found, findTree, answered, nodesAfter, treeAnswer, maxText, Answer as TreeAnswer}
 use Rattle.cel_text.specs.Laws.Class.{by-test}
-use Rattle.cel_policy.specs.Policy.{Span, Policy, noPolicy, allStrings}
+use Rattle.cel_text.specs.Laws.Table.{hold-front}
+use Rattle.cel_policy.specs.Policy.{Span, Policy, Counted, counted, stringCount, noPolicy, allStrings, numbers}
 use Rattle.cel_policy.specs.Mapping.{Node, Mapped, good, bad, nodeOf, mapping}
-use Rattle.cel_policy.specs.Spans.{spanWords, spanTable, spansLeft}
-use Rattle.cel_policy.specs.Answers.{unread, judged, mapTree, findPolicy, PolicyAnswer, policyAnswered, nodesHeld, spansHeld, policyAnswer, policyNodes, policySpans}
+use Rattle.cel_policy.specs.Spans.{spanRows, spanWords, spanTable, spansLeft}
+use Rattle.cel_policy.specs.Answers.{unread, judged, mapTree, findPolicy, PolicyAnswer, policyAnswered, nodesHeld, spansHeld, policyAnswer}
 use Rattle.cel_policy.specs.Laws.Shape.{Shape, skips, certifies}
-use Rattle.cel_policy.specs.Laws.Counts.{size, Meets, meets-mapping}
+use Rattle.cel_policy.specs.Laws.Counts.{size, Meets, OfMapping, meets-mapping}
+use Rattle.cel_policy.specs.Laws.SpanTable.{length-spanRows}
 use Rattle.parser.specs.Found.{told}
-use Rattle.cel_policy.specs.declared.Policy.{Policy as Numbers}
-use Rattle.cel_policy.specs.Policy.{numbers as given}
 use Rattle.parser.specs.declared.Answer.{Answer}
-use Rattle.parser.proofs.Answers.{clearedFrom, hold-front}
+use Rattle.parser.proofs.Answers.{clearedFrom, clear-all}
 use Rattle.ast_mapping.specs.declared.PolicyAnswer.{PolicyAnswer as Told-answer}
 use Rattle.ast_mapping.specs.View.{nodeAt, Held}
-use Rattle.ast_mapping.specs.Spans.{policyTold, strings, numbers, few, spareFrom, Refusing, settledAnswer, settledSpans, Settled}
+use Rattle.ast_mapping.specs.Spans.{policyTold, stringsIn, countsIn, spareFrom, settledAnswer, Settled, TreeMapped}
 use Rattle.ast_mapping.proofs.Written.{Rooted, rooted}
 
 -- ---- what reading a tree can find
@@ -60,15 +59,19 @@ shape-few skips = omega arith
 shape-few (certifies none l h) = h
 shape-few (certifies (some r) l h) = simp length-append (omega arith)
 
+abbrev Refusing : Mapped (Policy Span) → Type 0
+Refusing (good p) = Unit {0}
+Refusing (bad r) = OfMapping (r .refusal)
+
 module _ (root : Node Span) (small : size root ≤ maxNodes) where
-  pub mapped-few : (m : Mapped (Policy Span)) → m ≡ mapping root → length (strings m) ≤ 249
+  pub mapped-few : (m : Mapped (Policy Span)) → m ≡ mapping root → length (stringsIn m) ≤ 249
   mapped-few m e = by m (subst (Meets _) (sym e) (meets-mapping root))
     where
-      by : (m : Mapped (Policy Span)) → Meets (λ (p : Policy Span). size root ≤ maxNodes → Shape p) m → length (strings m) ≤ 249
+      by : (m : Mapped (Policy Span)) → Meets (λ (p : Policy Span). size root ≤ maxNodes → Shape p) m → length (stringsIn m) ≤ 249
       by (good p) h = shape-few (h small)
       by (bad r) h = omega arith
 
-  pub mapped-refusing : (m : Mapped (Policy Span)) → m ≡ mapping root → Refusing m
+  mapped-refusing : (m : Mapped (Policy Span)) → m ≡ mapping root → Refusing m
   mapped-refusing m e = by m (subst (Meets _) (sym e) (meets-mapping root))
     where
       by : (m : Mapped (Policy Span)) → Meets (λ (p : Policy Span). size root ≤ maxNodes → Shape p) m → Refusing m
@@ -78,113 +81,215 @@ module _ (root : Node Span) (small : size root ≤ maxNodes) where
 pub root-small : {w : Words} {x : Text} → Held w x 0 → size (nodeAt w x 0) ≤ maxNodes
 root-small h = omega (arith, h .small)
 
--- ---- the tables, where the counted words alone were lent
+-- ---- what is left of the tables
 
-fault-spans : (r : ℕ) → 1 ≤ r → r ≤ 6 → (s : Words) → length s ≡ spanWords → clearedFrom s (spareFrom r 0) ≡ hold (spansLeft r) spanWords [] s
-fault-spans zero l h s long = absurd (omega arith)
-fault-spans (suc zero) l h s long = rw (take-all spanWords s (omega arith), long) (append-nil s)
-fault-spans (suc (suc r)) l h s long =
-    let some : suc (suc r) ≡ 1 → ⊥ = λ e. omega arith in
-    let none : drop spanWords s ≡ [] = drop-of-length-le s {i = spanWords} (omega arith) in
-    rw (ne-eqb (suc (suc r)) 1 some, le-leb 2 (suc (suc r)) (omega arith), le-leb (suc (suc r)) 16 (omega arith), long, none)
+left-filled : (r : ℕ) → OfMapping r → nodesLeft r ≡ filled
+left-filled r h =
+    let some : r ≡ 0 → ⊥ = λ e. omega (arith, h .0) in
+    let more : r ≡ 1 → ⊥ = λ e. omega (arith, h .0) in
+    rw (ne-eqb r 0 some, ne-eqb r 1 more, le-leb 7 r (h .0), le-leb r 16 (h .1))
 
-left-filled : (r : ℕ) → 7 ≤ r → nodesLeft r ≡ filled
-left-filled r h = let some : r ≡ 1 → ⊥ = λ e. omega arith in rw (ne-eqb r 1 some, lt-ltb 1 r (omega arith), lt-leb r 6 h)
+abbrev Unfilled : Left → Type 0
+Unfilled untouched = Unit {0}
+Unfilled cleared = Unit {0}
+Unfilled filled = ⊥
 
-left-cleared : (r : ℕ) → 7 ≤ r → spansLeft r ≡ cleared
-left-cleared r h = let some : r ≡ 1 → ⊥ = λ e. omega arith in rw (ne-eqb r 1 some, lt-ltb 1 r (omega arith))
+left-unfilled : (r : ℕ) → 1 ≤ r → Unfilled (spansLeft r)
+left-unfilled zero h = absurd (omega arith)
+left-unfilled (suc zero) h = tt
+left-unfilled (suc (suc r)) h =
+    let some : suc (suc r) ≡ 0 → ⊥ = λ e. omega arith in
+    let more : suc (suc r) ≡ 1 → ⊥ = λ e. omega arith in
+    rw (ne-eqb (suc (suc r)) 0 some, ne-eqb (suc (suc r)) 1 more) tt
 
-judged-nodes : (t : Tree) (m : Mapped (Policy Span)) (lent : Words) → Refusing m → hold filled nodeWords (rows t) lent ≡ nodesHeld (judged t m) lent
-judged-nodes t (good p) lent h = refl
-judged-nodes t (bad r) lent h = rw (left-filled (r .refusal) (h .0))
+-- what both ways of holding have in common; `end` is the first word after the strings that is cleared
+pub record Way (holding : Left → ℕ → Words → Words → Words) (end : Counted → ℕ) : Type 0 where
+  pub untouches : (n : ℕ) (ws w : Words) → holding untouched n ws w ≡ w
+  pub clears : (n : ℕ) (ws w : Words) → holding cleared n ws w ≡ replicate n 0 ++ drop n w
+  pub begins : (n : ℕ) (ws w : Words) → (rest : Words) × (holding filled n ws w ≡ ws ++ rest)
+  pub front : (l : Left) (n : ℕ) (ws w : Words) → length ws ≤ n → n ≤ length w → holding l n ws (take n w) ++ drop n w ≡ holding l n ws w
+  pub fills : (p : Policy Span) (s : Words) → length s ≡ spanWords → length (spanTable p) ≤ spanWords
+      → clearedFrom (sets s 0 (spanTable p)) (end (counted p)) ≡ holding filled spanWords (spanTable p) s
 
-judged-spans : (t : Tree) (m : Mapped (Policy Span)) (s : Words) → Refusing m → spanWords ≤ length s
-    → settledSpans m (take spanWords s) ++ drop spanWords s ≡ spansHeld (judged t m) s
-judged-spans t (good p) s h long = hold-front filled spanWords (spanTable p) s long
-judged-spans t (bad r) s h long = rw (left-cleared (r .refusal) (h .0)) (hold-front cleared spanWords [] s long)
+-- the strings, then zeros
+pub zeros : Way hold (λ (k : Counted). 2 * stringCount k)
+unfolding spanTable
+zeros =
+    record {
+      untouches = λ n ws w. refl;
+      clears = λ n ws w. refl;
+      begins = λ n ws w. (_, refl);
+      front = λ l n ws w h long. hold-front l n ws w long;
+      fills = fill;
+    }
+  where
+    fill : (p : Policy Span) (s : Words) → length s ≡ spanWords → length (spanTable p) ≤ spanWords
+        → clearedFrom (sets s 0 (spanTable p)) (2 * stringCount (counted p)) ≡ hold filled spanWords (spanTable p) s
+    fill p s long h =
+        let rows : Words = spanRows (allStrings p) in
+        let count : stringCount (counted p) ≡ length (allStrings p) = simp length-append (omega arith) in
+        let size : length rows ≡ 2 * stringCount (counted p) = length-spanRows (allStrings p) ∙ ap (λ (n : ℕ). 2 * n) (sym count) in
+        let fits : 0 + length rows ≤ length s = omega arith in
+        let long′ : length (sets s 0 rows) ≡ spanWords = length-sets s 0 rows ∙ long in
+        let front : take (2 * stringCount (counted p)) (sets s 0 rows) ≡ rows
+        = rw (sets-eq rows s 0 fits) (take-at rows (drop (0 + length rows) s) (2 * stringCount (counted p)) size) in
+        let none : drop spanWords s ≡ [] = drop-of-length-le s {i = spanWords} (omega arith) in
+        rw (front, long′, sym size, none, append-nil)
 
-judged-answer : (t : Tree) (q : ℕ) (m : Mapped (Policy Span))
-    → record { answer = settledAnswer (answered (tree t q)) m; policy = numbers m } ≡ policyAnswered (judged t m)
-judged-answer t q (good p) = refl
-judged-answer t q (bad r) = refl
+-- the strings, then the words as lent
+pub lent : Way holdOver (λ (k : Counted). spanWords)
+lent =
+    record {
+      untouches = λ n ws w. refl;
+      clears = λ n ws w. refl;
+      begins = λ n ws w. (_, refl);
+      front = over-front;
+      fills = fill;
+    }
+  where
+    over-front : (l : Left) (n : ℕ) (ws w : Words) → length ws ≤ n → n ≤ length w → holdOver l n ws (take n w) ++ drop n w ≡ holdOver l n ws w
+    over-front untouched n ws w h long = hold-front untouched n ws w long
+    over-front cleared n ws w h long = hold-front cleared n ws w long
+    over-front filled n ws w h long =
+        let inside : length ws ≤ length (take n w) = omega (arith, length-take-le n w long) in
+        append-assoc ws (drop (length ws) (take n w)) (drop n w)
+        ∙ ap (λ (l : Words). ws ++ l) (sym (drop-append-le (length ws) (take n w) (drop n w) inside) ∙ ap (drop (length ws)) (take-append-drop n w))
+
+    fill : (p : Policy Span) (s : Words) → length s ≡ spanWords → length (spanTable p) ≤ spanWords
+        → clearedFrom (sets s 0 (spanTable p)) spanWords ≡ holdOver filled spanWords (spanTable p) s
+    fill p s long h =
+        let rows : Words = spanTable p in
+        let fits : 0 + length rows ≤ length s = omega arith in
+        let long′ : length (sets s 0 rows) ≡ spanWords = length-sets s 0 rows ∙ long in
+        let none : length (sets s 0 rows) - spanWords ≡ 0 = omega arith in
+        rw (none, take-all spanWords (sets s 0 rows) (omega arith), append-nil) (sets-eq rows s 0 fits ∙ ap (λ (n : ℕ). rows ++ drop n s) (zero-add (length rows)))
 
 -- ---- reading a policy
 
--- what `read_policy` ensures, where f is what reading the tree found
-record Reads (x : Text) (f : Found) (nodes spans nodes′ spans′ : Words) (r : Told-answer) : Type 0 where
-  answer : policyTold r ≡ policyAnswered (mapTree x f)
-  table : nodes′ ≡ nodesHeld (mapTree x f) nodes
-  strings : spans′ ≡ spansHeld (mapTree x f) spans
+module _ (holding : Left → ℕ → Words → Words → Words) (end : Counted → ℕ) (way : Way holding end) (x : Text) where
+  -- a refusal of the counted words s alone
+  spare-kept : (l : Left) → Unfilled l → (s : Words) → length s ≡ spanWords → (i : ℕ) → clearedFrom s (spareFrom l i) ≡ holding l spanWords [] s
+  spare-kept untouched h s long i =
+      let none : length s - spanWords ≡ 0 = omega arith in
+      rw (none, take-all spanWords s (omega arith), append-nil s) (sym (way .untouches spanWords [] s))
+  spare-kept cleared h s long i =
+      let none : drop spanWords s ≡ [] = drop-of-length-le s {i = spanWords} (omega arith) in
+      clear-all s spanWords long
+      ∙ sym (way .clears spanWords [] s ∙ ap (λ (l : Words). replicate spanWords 0 ++ l) none ∙ append-nil (replicate spanWords 0))
+  spare-kept filled h s long i = absurd h
 
-module _ (x : Text) (nodes spans : Words) where
-  abbrev pub Ensured : (nodes′ spans′ : Words) → Told-answer → Type 0
-  Ensured nodes′ spans′ r =
-      (policyTold r ≡ policyAnswer (length nodes) (length spans) x) × ((nodes′ ≡ policyNodes x nodes spans) × (spans′ ≡ policySpans x nodes spans))
+  settled-spans : (t : Tree) (q : ℕ) (m : Mapped (Policy Span)) → Refusing m → length (stringsIn m) ≤ 249 → (s : Words) → length s ≡ spanWords
+      → clearedFrom (sets s 0 (spanRows (stringsIn m))) (spareFrom (spansLeft (settledAnswer (answered (tree t q)) m .refusal)) (end (countsIn m)))
+      ≡ spansHeld holding (judged t m) s
+  unfolding spanTable
+  settled-spans t q (good p) h few s long = way .fills p s long (omega (arith, length-spanRows (allStrings p)))
+  settled-spans t q (bad r) h few s long = spare-kept (spansLeft (r .refusal)) (left-unfilled (r .refusal) (omega (arith, h .0))) s long (end noPolicy)
 
-  pub ensured-short : {r : Told-answer} → length spans < spanWords → policyTold r ≡ policyAnswered (unread 1 0) → Ensured nodes spans r
-  unfolding policyAnswer policyNodes policySpans
-  ensured-short h e = rw (lt-ltb (length spans) spanWords h) (e, (refl, refl))
+  settled-nodes : (t : Tree) (m : Mapped (Policy Span)) → Refusing m → (w : Words) → holding filled nodeWords (rows t) w ≡ nodesHeld holding (judged t m) w
+  settled-nodes t (good p) h w = refl
+  settled-nodes t (bad r) h w = rw (left-filled (r .refusal) h)
 
-  module _ (long : spanWords ≤ length spans) where
-    ensured : {nodes′ spans′ : Words} {r : Told-answer} → Reads x (findTree stringByte (length nodes) x) nodes spans nodes′ spans′ r → Ensured nodes′ spans′ r
-    unfolding policyAnswer policyNodes policySpans
-    ensured h = rw (le-ltb (length spans) spanWords long) (h .answer, (h .table, h .strings))
+  settled-answer : (t : Tree) (q : ℕ) (m : Mapped (Policy Span))
+      → record { answer = settledAnswer (answered (tree t q)) m; policy = countsIn m } ≡ policyAnswered (judged t m)
+  settled-answer t q (good p) = refl
+  settled-answer t q (bad r) = refl
 
-    module _ (a : Answer) (nodes′ : Words) (e : told a ≡ treeAnswer (length nodes) x) (k : nodes′ ≡ treeTable x nodes) where
-      -- a refusal of 1 to 6
-      refused-reads : (f : Found) → Right (length nodes) x f → told a ≡ answered f → nodes′ ≡ nodesAfter f nodes → (a .refusal ≡ 0 → ⊥)
-          → (p : Numbers) → given p ≡ noPolicy → (part : Words) → part ≡ clearedFrom (take spanWords spans) (spareFrom (a .refusal) 0)
-          → Reads x f nodes spans nodes′ (part ++ drop spanWords spans) (record { answer = a; policy = p })
-      refused-reads (tree t q) h e k z p n part c = absurd (z (ap (λ (b : TreeAnswer). b .refusal) e))
-      refused-reads (fault r j) h e k z p n part c =
-          let same : a .refusal ≡ r = ap (λ (b : TreeAnswer). b .refusal) e in
-          let front : part ≡ hold (spansLeft r) spanWords [] (take spanWords spans)
-          = c ∙ rw same (fault-spans r (h .0) (h .1) (take spanWords spans) (length-take-le spanWords spans long)) in
+  spans-front : (t : Tree) (m : Mapped (Policy Span)) → length (stringsIn m) ≤ 249 → (s : Words) → spanWords ≤ length s
+      → spansHeld holding (judged t m) (take spanWords s) ++ drop spanWords s ≡ spansHeld holding (judged t m) s
+  unfolding spanTable
+  spans-front t (good p) few s long = way .front filled spanWords (spanTable p) s (omega (arith, length-spanRows (allStrings p))) long
+  spans-front t (bad r) few s long = way .front (spansLeft (r .refusal)) spanWords [] s (omega arith) long
+
+  module _ (nodes spans : Words) where
+    abbrev pub Ensured : (nodes′ spans′ : Words) → Told-answer → Type 0
+    Ensured nodes′ spans′ r =
+        (policyTold r ≡ policyAnswer (length nodes) (length spans) x)
+        × ((nodes′ ≡ nodesHeld holding (findPolicy stringByte (length nodes) (length spans) x) nodes)
+        × (spans′ ≡ spansHeld holding (findPolicy stringByte (length nodes) (length spans) x) spans))
+
+    pub ensured-short : {r : Told-answer} → length spans < spanWords → policyTold r ≡ policyAnswered (unread 1 0) → Ensured nodes spans r
+    unfolding policyAnswer
+    ensured-short h e =
+        rw (lt-ltb (length spans) spanWords h) (e, (sym (way .untouches nodeWords [] nodes), sym (way .untouches spanWords [] spans)))
+
+    -- the same where f is what reading the tree found
+    record Reads (f : Found) (nodes′ spans′ : Words) (r : Told-answer) : Type 0 where
+      answer : policyTold r ≡ policyAnswered (mapTree x f)
+      table : nodes′ ≡ nodesHeld holding (mapTree x f) nodes
+      strings : spans′ ≡ spansHeld holding (mapTree x f) spans
+
+    module _ (long : spanWords ≤ length spans) (a : Answer) (nodes′ : Words) where
+      -- the counted words of the span table
+      abbrev front : Words
+      front = take spanWords spans
+
+      front-long : length front ≡ spanWords
+      front-long = length-take-le spanWords spans long
+
+      refused-reads : (n p : ℕ) → 1 ≤ n → told a ≡ answered (fault n p) → nodes′ ≡ nodesAfter holding (fault n p) nodes
+          → (r : Told-answer) (s′ : Words) → TreeMapped x a nodes′ front s′ r
+          → Reads (fault n p) nodes′ (clearedFrom s′ (spareFrom (spansLeft (r .answer .refusal)) (end (numbers (r .policy)))) ++ drop spanWords spans) r
+      refused-reads n p h e k r s′ m =
+          let number : a .refusal ≡ n = ap (λ (b : TreeAnswer). b .refusal) e in
+          let f = m .refused (λ z. omega arith) in
+          let same : r .answer .refusal ≡ n = ap (λ (b : PolicyAnswer). b .answer .refusal) (f .0) ∙ number in
           record {
-            answer = cc (e, n);
+            answer = f .0 ∙ ap (λ (b : TreeAnswer). record { answer = b; policy = noPolicy }) e;
             table = k;
-            strings = ap (λ (l : Words). l ++ drop spanWords spans) front ∙ hold-front (spansLeft r) spanWords [] spans long;
+            strings =
+                rw (f .1, same, spare-kept (spansLeft n) (left-unfilled n h) front front-long (end (numbers (r .policy))))
+                (way .front (spansLeft n) spanWords [] spans (omega arith) long);
           }
 
-      pub ensured-refused : (a .refusal ≡ 0 → ⊥) → (p : Numbers) → given p ≡ noPolicy → (part : Words)
-          → part ≡ clearedFrom (take spanWords spans) (spareFrom (a .refusal) 0) → Ensured nodes′ (part ++ drop spanWords spans) (record { answer = a; policy = p })
-      unfolding treeAnswer treeTable
-      ensured-refused z p n part c = ensured (refused-reads (findTree stringByte (length nodes) x) (right (length nodes) x) e k z p n part c)
+      settled-reads : (t : Tree) (q : ℕ) → told a ≡ answered (tree t q) → nodes′ ≡ nodesAfter holding (tree t q) nodes
+          → (m : Mapped (Policy Span)) → m ≡ mapping (nodeOf x t 0) → Refusing m → length (stringsIn m) ≤ 249
+          → (r : Told-answer) (s′ : Words) → Settled m a front s′ r
+          → Reads (tree t q) nodes′ (clearedFrom s′ (spareFrom (spansLeft (r .answer .refusal)) (end (numbers (r .policy)))) ++ drop spanWords spans) r
+      settled-reads t q e k m is h few r s′ s =
+          let told-answer : policyTold r ≡ record { answer = settledAnswer (answered (tree t q)) m; policy = countsIn m }
+          = s .answer ∙ ap (λ (b : TreeAnswer). record { answer = settledAnswer b m; policy = countsIn m }) e in
+          let number : r .answer .refusal ≡ settledAnswer (answered (tree t q)) m .refusal = ap (λ (b : PolicyAnswer). b .answer .refusal) told-answer in
+          let counts : numbers (r .policy) ≡ countsIn m = ap (λ (b : PolicyAnswer). b .policy) told-answer in
+          record {
+            answer = told-answer ∙ settled-answer t q m ∙ ap (λ (n : Mapped (Policy Span)). policyAnswered (judged t n)) is;
+            table = k ∙ settled-nodes t m h nodes ∙ ap (λ (n : Mapped (Policy Span)). nodesHeld holding (judged t n) nodes) is;
+            strings =
+                rw (s .rows, number, counts, settled-spans t q m h few front front-long) (spans-front t m few spans long)
+                ∙ ap (λ (n : Mapped (Policy Span)). spansHeld holding (judged t n) spans) is;
+          }
 
-      -- a tree
-      found-rooted : (f : Found) → Right (length nodes) x f → told a ≡ answered f → nodes′ ≡ nodesAfter f nodes → a .refusal ≡ 0
-          → (t : Tree) × (q : ℕ) × (f ≡ tree t q) × Rooted nodes′ x t
-      found-rooted (tree t q) h e k z = (t, q, refl, rooted stringByte x t q h nodes′ _ k)
-      found-rooted (fault r j) h e k z = absurd (omega (arith, h .0, ap (λ (b : TreeAnswer). b .refusal) e))
+      module _ (e : told a ≡ treeAnswer (length nodes) x) (k : nodes′ ≡ nodesAfter holding (findTree stringByte (length nodes) x) nodes) where
+        held-by : (f : Found) → Right (length nodes) x f → told a ≡ answered f → nodes′ ≡ nodesAfter holding f nodes → a .refusal ≡ 0
+            → (t : Tree) × (q : ℕ) × (f ≡ tree t q) × Rooted nodes′ x t
+        held-by (tree t q) h e k z = let b = way .begins nodeWords (rows t) nodes in (t, q, refl, rooted stringByte x t q h nodes′ (b .0) (k ∙ b .1))
+        held-by (fault n p) h e k z = absurd (omega (arith, h .0, ap (λ (b : TreeAnswer). b .refusal) e))
 
-      module _ (z : a .refusal ≡ 0) where
-        root-found : (t : Tree) × (q : ℕ) × (findTree stringByte (length nodes) x ≡ tree t q) × Rooted nodes′ x t
-        unfolding treeAnswer treeTable
-        root-found = found-rooted (findTree stringByte (length nodes) x) (right (length nodes) x) e k z
+        root-found : a .refusal ≡ 0 → (t : Tree) × (q : ℕ) × (findTree stringByte (length nodes) x ≡ tree t q) × Rooted nodes′ x t
+        unfolding treeAnswer
+        root-found z = held-by (findTree stringByte (length nodes) x) (right (length nodes) x) e k z
 
-        pub root-held : Held nodes′ x 0
-        root-held = root-found .3 .root
+        pub root-held : a .refusal ≡ 0 → Held nodes′ x 0
+        root-held z = root-found z .3 .root
 
-        settled-reads : (t : Tree) (q : ℕ) → Rooted nodes′ x t → told a ≡ answered (tree t q) → nodes′ ≡ nodesAfter (tree t q) nodes
-            → (m : Mapped (Policy Span)) → m ≡ mapping (nodeAt nodes′ x 0) → Refusing m → (part : Words) (r : Told-answer) → Settled m a (take spanWords spans) part r
-            → Reads x (tree t q) nodes spans nodes′ (part ++ drop spanWords spans) r
-        settled-reads t q root e k m is h part r s =
-            let same : m ≡ mapping (nodeOf x t 0) = is ∙ ap mapping (root .is) in
-            let told-answer : policyTold r ≡ record { answer = settledAnswer (answered (tree t q)) m; policy = numbers m }
-            = cc (s .answer, s .counts, ap (λ (b : TreeAnswer). settledAnswer b m) e) in
-            record {
-              answer = told-answer ∙ judged-answer t q m ∙ ap (λ (n : Mapped (Policy Span)). policyAnswered (judged t n)) same;
-              table = k ∙ judged-nodes t m nodes h ∙ ap (λ (n : Mapped (Policy Span)). nodesHeld (judged t n) nodes) same;
-              strings =
-                  ap (λ (l : Words). l ++ drop spanWords spans) (s .spans) ∙ judged-spans t m spans h long
-                  ∙ ap (λ (n : Mapped (Policy Span)). spansHeld (judged t n) spans) same;
-            }
+        mapped-reads : (f : Found) → Right (length nodes) x f → told a ≡ answered f → nodes′ ≡ nodesAfter holding f nodes
+            → (r : Told-answer) (s′ : Words) → TreeMapped x a nodes′ front s′ r
+            → Reads f nodes′ (clearedFrom s′ (spareFrom (spansLeft (r .answer .refusal)) (end (numbers (r .policy)))) ++ drop spanWords spans) r
+        mapped-reads (fault n p) h e k r s′ m = refused-reads n p (h .0) e k r s′ m
+        mapped-reads (tree t q) h e k r s′ m =
+            let z : a .refusal ≡ 0 = ap (λ (b : TreeAnswer). b .refusal) e in
+            let b = way .begins nodeWords (rows t) nodes in
+            let root : Rooted nodes′ x t = rooted stringByte x t q h nodes′ (b .0) (k ∙ b .1) in
+            let small : size (nodeAt nodes′ x 0) ≤ maxNodes = root-small (root .root) in
+            settled-reads t q e k (mapping (nodeAt nodes′ x 0)) (ap mapping (root .is)) (mapped-refusing (nodeAt nodes′ x 0) small _ refl)
+            (mapped-few (nodeAt nodes′ x 0) small _ refl) r s′ (m .accepted z)
 
-        pub ensured-settled : (m : Mapped (Policy Span)) → m ≡ mapping (nodeAt nodes′ x 0) → (part : Words) (r : Told-answer)
-            → Settled m a (take spanWords spans) part r → Ensured nodes′ (part ++ drop spanWords spans) r
-        unfolding treeAnswer treeTable
-        ensured-settled m is part r s =
-            let f = root-found in
-            ensured (rw (f .2)
-            (settled-reads (f .0) (f .1) (f .3) (e ∙ ap answered (f .2)) (k ∙ ap (λ (g : Found). nodesAfter g nodes) (f .2)) m is
-            (mapped-refusing (nodeAt nodes′ x 0) (root-small root-held) m is) part r s))
+        -- v is what clearing leaves of the counted words
+        pub ensured : (r : Told-answer) (s′ : Words) → TreeMapped x a nodes′ front s′ r → length s′ ≡ length front
+            → (i : ℕ) → i ≡ spareFrom (spansLeft (r .answer .refusal)) (end (numbers (r .policy)))
+            → (v : Words) → v ≡ clearedFrom (take spanWords (s′ ++ drop spanWords spans)) i → Ensured nodes′ (v ++ drop spanWords (s′ ++ drop spanWords spans)) r
+        unfolding policyAnswer treeAnswer
+        ensured r s′ m same i c v u =
+            let whole : length s′ ≡ spanWords = same ∙ front-long in
+            let f = mapped-reads (findTree stringByte (length nodes) x) (right (length nodes) x) e k r s′ m in
+            rw (le-ltb (length spans) spanWords long, u, take-at s′ (drop spanWords spans) spanWords whole, drop-at s′ (drop spanWords spans) spanWords whole, c)
+            (f .answer, (f .table, f .strings))

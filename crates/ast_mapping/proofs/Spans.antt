@@ -2,30 +2,22 @@
 use mathlib.Core.Path.{_≡_, refl, sym, ap, _∙_}
 use Prim.Native.Nat.{ℕ, zero, suc, _+_, _-_, _*_, _≤_, _<_}
 use native.Mathlib.Omega.{arith}
-use mathlib.Core.List.{List, [], _∷_, _++_, append-nil, append-assoc}
-use lib.ListN.{length, take, drop, set, length-append, drop-of-length-le}
-use lib.Seq.{sets, sets-eq, length-sets, take-at}
-use borrow.Author.Tests.{ne-eqb, le-leb}
+use mathlib.Core.List.{List, _++_, append-assoc}
+use lib.ListN.{length, set, length-append}
+use lib.Seq.{sets}
 use mir.Syntax.{w32}
 use mir.Val.{Fits}
-use Rattle.cel_text.specs.Table.{Words}
-use Rattle.cel_text.specs.Answer.{Answer as TreeAnswer}
-use Rattle.cel_policy.specs.Policy.{Span, Policy, stringCount, allStrings}
-use Rattle.cel_policy.specs.Mapping.{Mapped, good, bad}
-use Rattle.cel_policy.specs.Spans.{spanRows, spanTable, spanWords}
+use Rattle.cel_text.specs.Reading.{maxNodes}
+use Rattle.cel_text.specs.Table.{Words, word}
+use Rattle.cel_policy.specs.Policy.{Span}
+use Rattle.cel_policy.specs.Spans.{spanRows}
 use Rattle.cel_policy.specs.Laws.SpanTable.{spanRows-append, length-spanRows}
-use Rattle.parser.specs.Found.{told}
-use Rattle.cel_policy.specs.declared.Policy.{Policy as Numbers}
-use Rattle.cel_policy.specs.Policy.{numbers as given}
-use Rattle.parser.specs.declared.Answer.{Answer}
 use Rattle.parser.specs.declared.Node.{Node as Numbered}
 use Rattle.parser.proofs.Rows.{sets-append}
-use Rattle.parser.proofs.Answers.{clearedFrom}
-use Rattle.ast_mapping.specs.declared.mapping.Mapped.{Mapped as Told-policy}
-use Rattle.ast_mapping.specs.declared.mapping.Mapped.the-variants.{Skip, ResponseOnly, Full, Refused}
-use Rattle.ast_mapping.specs.View.{word, spanOf, spansFrom, stringsOf}
+use Rattle.ast_mapping.specs.declared.mapping.Mapped.the-variants.{Full}
+use Rattle.ast_mapping.specs.View.{spanOf, spansFrom, stringsOf}
 use Rattle.ast_mapping.specs.Steps.{mappedAs}
-use Rattle.ast_mapping.specs.Spans.{PutList, strings, numbers, few, Put, spareFrom, Refusing, answerAs, settledAnswer, settledSpans, Settled}
+use Rattle.ast_mapping.specs.Spans.{PutList, Put}
 
 pub length-spansFrom : (w : Words) (m n : ℕ) → length (spansFrom w n m) ≡ m
 length-spansFrom w zero n = refl
@@ -90,7 +82,7 @@ module _ (w : Words) (h q l : Numbered) (kind : ℕ) (s s₁ s₂ s₃ : Words) 
 -- three lists of a, b and c strings have room in s words
 pub record Room (a b c s : ℕ) : Type 0 where
   pub words : 2 * (a + (b + c)) ≤ s
-  pub few : a + (b + c) ≤ 256
+  pub few : a + (b + c) ≤ maxNodes
 
 module _ {a b c s : ℕ} (r : Room a b c s) where
   pub room-first : 2 * (0 + a) ≤ s
@@ -105,50 +97,3 @@ module _ {a b c s : ℕ} (r : Room a b c s) where
 
     pub room-third : {second s₁ s₂ : ℕ} → second ≡ first + b → s₁ ≡ s → s₂ ≡ s₁ → 2 * (second + c) ≤ s₂
     room-third f h k = omega (arith, r .words)
-
--- ---- the answer, and the words that are spare
-
-answer-as : (w : Words) (a : Answer) (m : Told-policy) → answerAs a m ≡ settledAnswer (told a) (mappedAs w m)
-answer-as w a Skip = refl
-answer-as w a (ResponseOnly kind l) = refl
-answer-as w a (Full h q kind l) = refl
-answer-as w a (Refused r) = refl
-
-pub count-of : (m : Mapped (Policy Span)) (p : Numbers) → given p ≡ numbers m → p .request + p .query + p .response ≡ length (strings m)
-count-of m p e = ap stringCount e ∙ all m
-  where
-    all : (m : Mapped (Policy Span)) → stringCount (numbers m) ≡ length (strings m)
-    all (good p) = simp length-append (omega arith)
-    all (bad r) = refl
-
-pub spare-words : (m : Mapped (Policy Span)) (a : TreeAnswer) (s s′ : Words) → length s ≡ spanWords → a .refusal ≡ 0 → Refusing m → few s (strings m)
-    → s′ ≡ sets s 0 (spanRows (strings m)) → clearedFrom s′ (spareFrom (settledAnswer a m .refusal) (length (strings m))) ≡ settledSpans m s
-unfolding spanTable
-spare-words (good p) a s s′ long ok rs f e =
-    let rows : Words = spanRows (allStrings p) in
-    let size : length rows ≡ 2 * length (allStrings p) = length-spanRows (allStrings p) in
-    let put : s′ ≡ rows ++ drop (0 + length rows) s = e ∙ sets-eq rows s 0 (omega (arith, size, f .0)) in
-    let front : take (2 * length (allStrings p)) s′ ≡ rows = rw put (take-at rows (drop (0 + length rows) s) (2 * length (allStrings p)) size) in
-    let long′ : length s′ ≡ spanWords = ap length e ∙ length-sets s 0 rows ∙ long in
-    let none : drop spanWords s ≡ [] = drop-of-length-le s {i = spanWords} (omega arith) in
-    rw (ok, front, long′, size, none, append-nil)
-spare-words (bad r) a s s′ long ok rs f e =
-    let some : r .refusal ≡ 1 → ⊥ = λ e. omega (arith, rs .0) in
-    let long′ : length s′ ≡ spanWords = ap length e ∙ long in
-    let none : drop spanWords s ≡ [] = drop-of-length-le s {i = spanWords} (omega arith) in
-    rw (ne-eqb (r .refusal) 1 some, le-leb 2 (r .refusal) (omega (arith, rs .0)), le-leb (r .refusal) 16 (rs .1), long′, none)
-
-pub settled : (w : Words) (m : Told-policy) (a b : Answer) (p : Numbers) (s s′ s″ : Words) (from : ℕ) → length s ≡ spanWords → a .refusal ≡ 0
-    → Refusing (mappedAs w m) → few s (strings (mappedAs w m)) → Put (mappedAs w m) s s′ p → told b ≡ answerAs a m
-    → from ≡ spareFrom (b .refusal) (p .request + p .query + p .response) → s″ ≡ clearedFrom s′ from
-    → Settled (mappedAs w m) a s s″ (record { answer = b; policy = p })
-settled w m a b p s s′ s″ from long ok rs f put e spare c =
-    let answer : told b ≡ settledAnswer (told a) (mappedAs w m) = e ∙ answer-as w a m in
-    let refusal : b .refusal ≡ settledAnswer (told a) (mappedAs w m) .refusal = ap (λ (t : TreeAnswer). t .refusal) answer in
-    let place : from ≡ spareFrom (settledAnswer (told a) (mappedAs w m) .refusal) (length (strings (mappedAs w m)))
-    = spare ∙ rw (refusal, count-of (mappedAs w m) p (put .counts)) in
-    record {
-      answer = answer;
-      counts = put .counts;
-      spans = c ∙ ap (clearedFrom s′) place ∙ spare-words (mappedAs w m) (told a) s s′ long ok rs f (put .rows);
-    }

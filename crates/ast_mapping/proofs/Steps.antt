@@ -9,17 +9,17 @@ use lib.Dec.{eqb, ltb}
 use borrow.Author.Tests.{le-ltb, ne-eqb, eq-eqb, eqb-false}
 use Rattle.cel_text.specs.Byte.{Text}
 use Rattle.cel_text.specs.Tree.{Kind, array, object, function}
-use Rattle.cel_text.specs.Table.{Words, kindNumber, stringKind}
+use Rattle.cel_text.specs.Table.{Words, kindNumber, stringKind, word}
 use Rattle.cel_policy.specs.Names.{same, spelling}
 use Rattle.cel_policy.specs.Policy.{Span}
 use Rattle.cel_policy.specs.Mapping.{Node, leaf, branch, Refusal, Mapped, good, bad, Typed, unexpectedType, unexpectedName, typed}
-use Rattle.ast_mapping.specs.View.{word, nodeAt, number, children, typedAt, Part, Stands, Held}
-use Rattle.ast_mapping.specs.Steps.{uses}
+use Rattle.ast_mapping.specs.View.{nodeAt, number, children, typedAt, Part, Stands, Held}
+use Rattle.ast_mapping.specs.Steps.{fieldsUsed}
 use Rattle.ast_mapping.proofs.View.{no-string}
 
 -- 11 to 16 use the node alone
-pub uses-none : (refusal node : ℕ) → 11 ≤ refusal → uses refusal 0 0 node ≡ record { refusal = refusal; name = 0; kind = 0; node = node }
-uses-none refusal node h = rw (le-ltb refusal 7 (omega arith), le-ltb refusal 11 h, ne-eqb refusal 7 (omega arith))
+pub fields-none : (refusal node : ℕ) → 11 ≤ refusal → fieldsUsed refusal 0 node ≡ record { refusal = refusal; name = 0; kind = 0; node = node }
+fields-none refusal node h = rw (le-ltb refusal 7 (omega arith), le-ltb refusal 11 h, ne-eqb refusal 7 (omega arith))
 
 -- ---- kind, then name
 
@@ -46,15 +46,14 @@ module _ (w : Words) (x : Text) (c : Kind) (name : ℕ) where
         decides = rw (eq-eqb (kindNumber d) (kindNumber c) (sym (h .0 .kind) ∙ k), h .1 .is);
       }
 
-  module _ (n k : ℕ) (h : Held w x n) (e : kindNumber c ≡ k) where
-    pub wrong-kind : (word w n 0 ≡ k → ⊥) → unexpectedType name k n ≡ typed c name (nodeAt w x n)
-    wrong-kind d =
-        subst (λ (j : ℕ). (word w n 0 ≡ j → ⊥) → unexpectedType name j n ≡ typed c name (nodeAt w x n)) e
-        (subst (λ (i : ℕ). (word w i 0 ≡ kindNumber c → ⊥) → unexpectedType name (kindNumber c) i ≡ typed c name (nodeAt w x n)) (h .numbered)
-        (other-kind (nodeAt w x n) (h .stands))) d
+  module _ (n : ℕ) (h : Held w x n) where
+    pub wrong-kind : (word w n 0 ≡ kindNumber c → ⊥) → unexpectedType name (kindNumber c) n ≡ typed c name (nodeAt w x n)
+    wrong-kind =
+        subst (λ (i : ℕ). (word w i 0 ≡ kindNumber c → ⊥) → unexpectedType name (kindNumber c) i ≡ typed c name (nodeAt w x n)) (h .numbered)
+        (other-kind (nodeAt w x n) (h .stands))
 
-    pub right-kind : word w n 0 ≡ k → NameAt w x n name (typedAt w x n) (typed c name (nodeAt w x n))
-    right-kind d =
+    pub right-kind : word w n 0 ≡ kindNumber c → NameAt w x n name (typedAt w x n) (typed c name (nodeAt w x n))
+    right-kind =
         subst
         (λ (i : ℕ). word w i 0 ≡ kindNumber c → NameAt w x i name (record { number = i; children = children (nodeAt w x n) }) (typed c name (nodeAt w x n)))
-        (h .numbered) (same-kind (nodeAt w x n) (h .stands)) (d ∙ sym e)
+        (h .numbered) (same-kind (nodeAt w x n) (h .stands))

@@ -12,12 +12,15 @@ use borrow.Author.Tests.{lt-ltb, le-ltb}
 use Rattle.cel_text.specs.Byte.{Text}
 use Rattle.cel_text.specs.Tree.{Kind, array, object, function}
 use Rattle.cel_text.specs.Reading.{maxNodes}
-use Rattle.cel_text.specs.Table.{Words, stringKind, kindNumber}
+use Rattle.cel_text.specs.Table.{Words, Row, rowWords, stringKind, kindNumber, word, wordsAt, rowAt}
+use Rattle.cel_text.specs.Laws.Table.{row-inside}
 use Rattle.cel_policy.specs.Policy.{Span}
 use Rattle.cel_policy.specs.Mapping.{Node, leaf, branch, Nodes, childless, _▹_∶_}
 use Rattle.cel_policy.specs.Laws.Counts.{size, sizes}
 use Rattle.parser.specs.Kinds.{kindOf}
-use Rattle.ast_mapping.specs.View.{word, spanOf, nodeFrom, nodesFrom, nodeAt, number, children, Row, Part, Stands, StandAll, Held}
+use Rattle.parser.specs.Rows.{rowTold}
+use Rattle.parser.specs.declared.row.Row.{Row as Told-row}
+use Rattle.ast_mapping.specs.View.{spanOf, nodeFrom, nodesFrom, nodeAt, number, children, RowIs, Part, Stands, StandAll, Held}
 
 size-positive : (m : Node Span) → 0 < size m
 size-positive (leaf n a) = lit< tt
@@ -26,6 +29,28 @@ size-positive (branch n c name ns) = omega arith
 pub size-children : (m : Node Span) → size m ≡ suc (sizes (children m))
 size-children (leaf n a) = refl
 size-children (branch n c name ns) = refl
+
+-- ---- a row that was read
+
+pub record RowRead (w : Words) (n : ℕ) (r : Told-row) : Type 0 where
+  pub kind : r .kind ≡ word w n 0
+  pub from : r .from .0 ≡ word w n 1
+  pub to : r .to .0 ≡ word w n 2
+  pub keyfrom : r .keyfrom .0 ≡ word w n 3
+  pub keyto : r .keyto .0 ≡ word w n 4
+  pub past : r .past .0 ≡ word w n 7
+
+pub row-read : {w : Words} {n : ℕ} {r : Told-row} → rowTold r ≡ rowAt w n → rowWords * suc n ≤ length w → RowRead w n r
+row-read {w} {n} {r} e h =
+    let k : rowTold r ≡ wordsAt w n = e ∙ row-inside w n h in
+    record {
+      kind = ap (λ (t : Row). t .kind) k;
+      from = ap (λ (t : Row). t .from) k;
+      to = ap (λ (t : Row). t .to) k;
+      keyfrom = ap (λ (t : Row). t .keyfrom) k;
+      keyto = ap (λ (t : Row). t .keyto) k;
+      past = ap (λ (t : Row). t .past) k;
+    }
 
 -- ---- beginnings of some children
 
@@ -65,7 +90,7 @@ module _ (w : Words) (x : Text) where
   stand-begin n (less s) h = stand-begin n s h .0
 
   -- the first node after its subtree
-  stands-past : (m : Node Span) → Stands m w x → (word w (number m) 7 ≡ number m + size m) × (8 * (number m + size m) ≤ length w)
+  stands-past : (m : Node Span) → Stands m w x → (word w (number m) 7 ≡ number m + size m) × (rowWords * (number m + size m) ≤ length w)
   stands-past (leaf n a) h = (h .0 .past ∙ omega arith, omega (arith, h .0 .within))
   stands-past (branch n c name ns) h = (h .0 .past ∙ omega arith, omega (arith, h .0 .within))
 
@@ -98,7 +123,7 @@ module _ (w : Words) (x : Text) where
 
   pub read-back : (m : Node Span) → Stands m w x → size m ≤ maxNodes → nodeAt w x (number m) ≡ m
   unfolding nodeAt
-  read-back m h l = decode 1024 m h (omega arith)
+  read-back m h l = decode (2 * maxNodes) m h (omega arith)
 
   pub held : (m : Node Span) → Stands m w x → number m + size m ≤ maxNodes → Held w x (number m)
   held m h l =
@@ -111,10 +136,10 @@ module _ (w : Words) (x : Text) where
     pub past : word w n 7 ≡ n + size (nodeAt w x n)
     past = ap (λ (k : ℕ). word w k 7) (sym (h .numbered)) ∙ stands-past (nodeAt w x n) (h .stands) .0 ∙ ap (λ (k : ℕ). k + size (nodeAt w x n)) (h .numbered)
 
-    pub within : 8 * (n + size (nodeAt w x n)) ≤ length w
+    pub within : rowWords * (n + size (nodeAt w x n)) ≤ length w
     within = omega (arith, stands-past (nodeAt w x n) (h .stands) .1, h .numbered)
 
-    pub room : 8 * n + 8 ≤ length w
+    pub room : rowWords * suc n ≤ length w
     room = omega (arith, within, size-positive (nodeAt w x n))
 
     pub few : n < maxNodes

@@ -7,12 +7,12 @@ use mathlib.Core.Option.{some}
 use lib.ListN.{length}
 use lib.Seq.{slice}
 use Rattle.cel_text.specs.Byte.{Text}
-use Rattle.cel_text.specs.Table.{Words}
+use Rattle.cel_text.specs.Table.{Words, word}
 use Rattle.cel_policy.specs.Names.{same, spelling}
 use Rattle.cel_policy.specs.Policy.{Span}
 use Rattle.cel_policy.specs.Mapping.{Node, Nodes, childless, _▹_∶_, lookup}
 use Rattle.cel_policy.specs.Laws.Counts.{size, sizes}
-use Rattle.ast_mapping.specs.View.{word, nodeAt, children, Held}
+use Rattle.ast_mapping.specs.View.{nodeAt, children, Held}
 use Rattle.ast_mapping.specs.Steps.{foundAs, FoundIf, Looked}
 use Rattle.ast_mapping.specs.declared.row.Found.{Found}
 use Rattle.ast_mapping.specs.declared.row.Found.the-variants.{At, Nothing}

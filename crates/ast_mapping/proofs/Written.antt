@@ -10,15 +10,15 @@ use lib.Seq.{slice, slice-empty, getD-drop}
 use Rattle.cel_text.specs.Byte.{Text, _⧺_, stringByte}
 use Rattle.cel_text.specs.Tree.{Kind, array, object, function, opener, closer, Key, unkeyed, key, Tree, string, container, Trees, ∅, _▸_∶_, nodes, nodesAll, count}
 use Rattle.cel_text.specs.Grammar.{Named, nameless, with-name, Head, array-head, object-head, function-head, Label, in-array, in-function, in-object, Value, a-string, a-container, Children, no-child, one-more}
-use Rattle.cel_text.specs.Table.{Words, row, rowsOf, rowsAll, rows, keyFrom, keyTo, kindNumber, stringKind}
+use Rattle.cel_text.specs.Table.{Words, row, rowsOf, rowsAll, rows, rowWords, keyFrom, keyTo, kindNumber, word}
 use Rattle.cel_text.specs.Reading.{read, accepted, limits, maxNodes}
 use Rattle.cel_text.specs.Laws.Sound.{sound, within}
+use Rattle.cel_text.specs.Laws.Table.{length-rowsOf, length-rowsAll}
 use Rattle.cel_policy.specs.Policy.{Span}
 use Rattle.cel_policy.specs.Mapping.{Node, Nodes, keyBytes, nodeOf, nodesOf}
 use Rattle.cel_policy.specs.Laws.Places.{Here, here-all, here-left, here-right}
 use Rattle.cel_policy.specs.Laws.Counts.{size, sizes, size-nodeOf}
-use Rattle.parser.proofs.Rows.{length-rowsOf, length-rowsAll}
-use Rattle.ast_mapping.specs.View.{word, nodeAt, number, Row, Part, Stands, StandAll, Held}
+use Rattle.ast_mapping.specs.View.{nodeAt, number, RowIs, Part, Stands, StandAll, Held}
 use Rattle.ast_mapping.proofs.View.{read-back, held}
 
 -- ---- names and keys lie in the text
@@ -90,33 +90,33 @@ key-slice x (key from to) = refl
 
 module _ (w : Words) (x : Text) where
   -- the words of a row, where it stands
-  word-at : (n : ℕ) {ws : Words} (h : Here w (8 * n) ws) (i : ℕ) → word w n i ≡ getD (ws ++ h .rest) i 0
-  word-at n h i = sym (getD-drop (8 * n) w i 0) ∙ ap (λ (l : Words). getD l i 0) (h .cut)
+  word-at : (n : ℕ) {ws : Words} (h : Here w (rowWords * n) ws) (i : ℕ) → word w n i ≡ getD (ws ++ h .rest) i 0
+  word-at n h i = sym (getD-drop (rowWords * n) w i 0) ∙ ap (λ (l : Words). getD l i 0) (h .cut)
 
-  key-words : (t : Tree) (k : Key) (u n : ℕ) → Here w (8 * n) (rowsOf t k u n) → (word w n 3 ≡ keyFrom k) × (word w n 4 ≡ keyTo k)
+  key-words : (t : Tree) (k : Key) (u n : ℕ) → Here w (rowWords * n) (rowsOf t k u n) → (word w n 3 ≡ keyFrom k) × (word w n 4 ≡ keyTo k)
   key-words (string o to q) k u n h = (word-at n h 3, word-at n h 4)
   key-words (container c o from to q ts) k u n h = (word-at n h 3, word-at n h 4)
 
   mutual
-    stand : (t : Tree) (k : Key) (u n : ℕ) → Here w (8 * n) (rowsOf t k u n) → 8 * (n + nodes t) ≤ length w → Inside t (length x) → Stands (nodeOf x t n) w x
+    stand : (t : Tree) (k : Key) (u n : ℕ) → Here w (rowWords * n) (rowsOf t k u n) → rowWords * (n + nodes t) ≤ length w → Inside t (length x) → Stands (nodeOf x t n) w x
     stand (string o to q) k u n h l i =
         (record { kind = word-at n h 0; past = word-at n h 7; within = omega arith }, rw (word-at n h 1, word-at n h 2))
     stand (container c o from to q ts) k u n h l i =
         let head : Words = row (kindNumber c) from to k u (count ts) (suc n + nodesAll ts) in
-        let kids : Here w (8 * n + 8) (rowsAll ts (suc n) (suc n)) = here-right head (rowsAll ts (suc n) (suc n)) h in
-        let place : 8 * n + 8 ≡ 8 * suc n = omega arith in (
+        let kids : Here w (rowWords * n + rowWords) (rowsAll ts (suc n) (suc n)) = here-right head (rowsAll ts (suc n) (suc n)) h in
+        let place : rowWords * n + rowWords ≡ rowWords * suc n = omega arith in (
           record { kind = word-at n h 0; past = word-at n h 7 ∙ omega (arith, sizes-of x ts n); within = omega (arith, sizes-of x ts n) },
           rw (word-at n h 1, word-at n h 2) (record { ordered = i .0; inside = i .1; is = refl }),
           stand-all ts (suc n) n (rw place at kids) (omega arith) (i .2),
         )
 
-    stand-all : (ts : Trees) (u n : ℕ) → Here w (8 * suc n) (rowsAll ts u (suc n)) → 8 * (suc n + nodesAll ts) ≤ length w → InsideAll ts (length x)
+    stand-all : (ts : Trees) (u n : ℕ) → Here w (rowWords * suc n) (rowsAll ts u (suc n)) → rowWords * (suc n + nodesAll ts) ≤ length w → InsideAll ts (length x)
         → StandAll (nodesOf x ts (suc n)) w x (suc n)
     stand-all ∅ u n h l i = tt
     stand-all (ts ▸ k ∶ t) u n h l i =
         let m : ℕ = suc n + nodesAll ts in
-        let place : 8 * suc n + length (rowsAll ts u (suc n)) ≡ 8 * m = omega (arith, length-rowsAll ts u (suc n)) in
-        let here : Here w (8 * m) (rowsOf t k u m) = rw place at (here-right (rowsAll ts u (suc n)) (rowsOf t k u m) h) in
+        let place : rowWords * suc n + length (rowsAll ts u (suc n)) ≡ rowWords * m = omega (arith, length-rowsAll ts u (suc n)) in
+        let here : Here w (rowWords * m) (rowsOf t k u m) = rw place at (here-right (rowsAll ts u (suc n)) (rowsOf t k u m) h) in
         let words : (word w m 3 ≡ keyFrom k) × (word w m 4 ≡ keyTo k) = key-words t k u m here in (
           stand-all ts u n (here-left (rowsAll ts u (suc n)) (rowsOf t k u m) h) (omega arith) (i .0),
           number-of x t m ∙ omega (arith, sizes-of x ts n),

@@ -4,20 +4,16 @@ use mathlib.Core.Path.{_≡_}
 use Prim.Native.Nat.{ℕ, zero, suc, _+_, _-_, _*_, _≤_, _<_}
 use mathlib.Core.Bool.{cond}
 use mathlib.Core.List.{List, [], _∷_}
-use lib.ListN.{length, getD}
+use lib.ListN.{length}
 use lib.Seq.{slice}
 use lib.Dec.{eqb, ltb}
 use Rattle.cel_text.specs.Byte.{Text}
 use Rattle.cel_text.specs.Reading.{maxNodes}
-use Rattle.cel_text.specs.Table.{Words, stringKind, kindNumber}
+use Rattle.cel_text.specs.Table.{Words, rowWords, word, stringKind, kindNumber}
 use Rattle.cel_policy.specs.Policy.{Span}
 use Rattle.cel_policy.specs.Mapping.{Node, leaf, branch, Nodes, childless, _▹_∶_, Typed}
 use Rattle.parser.specs.Kinds.{kindOf}
 use Rattle.cel_policy.specs.Laws.Counts.{size, sizes}
-
--- word i of the row of node n
-abbrev pub word : Words → (n i : ℕ) → ℕ
-word w n i = getD w (8 * n + i) 0
 
 -- a string's content, as its row has it
 abbrev pub spanOf : Words → ℕ → Span
@@ -47,9 +43,9 @@ abbrev mutual
   nodesFrom (suc f) w x n end before =
       cond (ltb n end) (nodesFrom f w x (word w n 7) end (before ▹ slice (word w n 3) (word w n 4) x ∶ nodeFrom f w x n)) before
 
--- two steps for each of 256 nodes are enough
+-- two steps for each node are enough
 unfoldable pub nodeAt : Words → Text → ℕ → Node Span
-nodeAt w x n = nodeFrom 1024 w x n
+nodeAt w x n = nodeFrom (2 * maxNodes) w x n
 
 abbrev pub number : Node Span → ℕ
 number (leaf n a) = n
@@ -60,10 +56,10 @@ children (leaf n a) = childless
 children (branch n c name ns) = ns
 
 -- the row of node n: its kind, the first node after its subtree, and that the subtree's rows are in the table
-pub record Row (w : Words) (n k end : ℕ) : Type 0 where
+pub record RowIs (w : Words) (n k end : ℕ) : Type 0 where
   pub kind : word w n 0 ≡ k
   pub past : word w n 7 ≡ end
-  pub within : 8 * end ≤ length w
+  pub within : rowWords * end ≤ length w
 
 -- the ends of these bytes of the text
 pub record Part (x : Text) (from to : ℕ) (bytes : Text) : Type 0 where
@@ -74,8 +70,8 @@ pub record Part (x : Text) (from to : ℕ) (bytes : Text) : Type 0 where
 -- the table has the rows of a node, and its names and keys lie in the text
 abbrev mutual
   pub Stands : Node Span → Words → Text → Type 0
-  Stands (leaf n a) w x = Row w n stringKind (suc n) × (a ≡ spanOf w n)
-  Stands (branch n c name ns) w x = Row w n (kindNumber c) (suc n + sizes ns) × Part x (word w n 1) (word w n 2) name × StandAll ns w x (suc n)
+  Stands (leaf n a) w x = RowIs w n stringKind (suc n) × (a ≡ spanOf w n)
+  Stands (branch n c name ns) w x = RowIs w n (kindNumber c) (suc n + sizes ns) × Part x (word w n 1) (word w n 2) name × StandAll ns w x (suc n)
 
   -- children of which the first has number n
   pub StandAll : Nodes Span → Words → Text → ℕ → Type 0
@@ -93,7 +89,7 @@ pub record Held (w : Words) (x : Text) (n : ℕ) : Type 0 where
 pub record Tabled (w : Words) (n : ℕ) : Type 0 where
   pub begun : n < word w n 7
   pub few : word w n 7 ≤ maxNodes
-  pub ended : 8 * word w n 7 ≤ length w
+  pub ended : rowWords * word w n 7 ≤ length w
 
 -- the node as an object or a function whose kind and name were found as expected
 abbrev pub typedAt : Words → Text → ℕ → Typed Span

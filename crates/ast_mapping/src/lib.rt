@@ -7,12 +7,17 @@ mod row;
 mod span;
 
 use cel_policy::Policy;
+use parser::ACCEPTED;
 use parser::Answer;
+use parser::TABLE_TOO_SHORT;
 ghost use mathlib.Core.Path.{_≡_};
-ghost use Prim.Native.Nat.{_≤_};
-ghost use lib.ListN.{length, replicate};
-ghost use Rattle.cel_policy.specs.Answers.{unread, policyAnswered, policyAnswer, policyNodes, policySpans};
-ghost use Rattle.ast_mapping.specs.Spans.{policyTold, TreeRead, PolicyRead};
+ghost use lib.ListN.{length};
+ghost use Rattle.cel_policy.specs.Policy.{noPolicy};
+ghost use Rattle.cel_policy.specs.Spans.{spanWords};
+ghost use Rattle.cel_policy.specs.Answers.{unread, policyAnswered, policyAnswer, policyNodes, policySpans, policyNodesOver, policySpansOver};
+ghost use Rattle.parser.specs.Found.{told};
+ghost use Rattle.ast_mapping.specs.View.{Held};
+ghost use Rattle.ast_mapping.specs.Spans.{policyTold, TreeMapped};
 
 // Document 01's answer of reading a policy.
 pub struct PolicyAnswer {
@@ -22,7 +27,8 @@ pub struct PolicyAnswer {
 
 pub const SPAN_WORDS: usize = 512;
 
-// Reads the text and maps its tree. Where a table is too short neither is touched; of longer ones the first 2,048 and 512 words count.
+// Reads the text and maps its tree. Where a table is too short neither is touched; of longer ones the first 2,048 and 512 words count,
+// and those after the rows and after the strings are 0.
 pub fn read_policy(text: &[u8], nodes: &mut [u32], spans: &mut [u32]) -> PolicyAnswer
     ensures answer { λ r. ⌜ policyTold r ≡ policyAnswer (length (now (nodes .entry))) (length (now (spans .entry))) (now (text .entry)) ⌝ }
     ensures nodes { λ r. ⌜ now (nodes .exit) ≡ policyNodes (now (text .entry)) (now (nodes .entry)) (now (spans .entry)) ⌝ }
@@ -32,52 +38,67 @@ pub fn read_policy(text: &[u8], nodes: &mut [u32], spans: &mut [u32]) -> PolicyA
         return too_short();
     }
     let tree = parser::read_tree(text, nodes);
-    read_on(text, tree, nodes, spans)
+    let read = map_tree(text, tree, nodes, &mut spans[..SPAN_WORDS]);
+    let end = span::strings_end(read.policy);
+    parser::row::clear(
+        &mut spans[..SPAN_WORDS],
+        span::spare(read.answer.refusal, end),
+    );
+    read
 }
 
-// The same for a node table of 2,048 words that are all 0, and a span table that is long enough.
-pub fn read_zeroed(text: &[u8], nodes: &mut [u32], spans: &mut [u32]) -> PolicyAnswer
-    requires { ⌜ now nodes ≡ replicate 2048 0 ⌝ }
-    requires { ⌜ 512 ≤ length (now spans) ⌝ }
+// The same, but the words after an accepted tree's rows and after the strings of an accepted policy stay as lent.
+pub fn read_over(text: &[u8], nodes: &mut [u32], spans: &mut [u32]) -> PolicyAnswer
     ensures answer { λ r. ⌜ policyTold r ≡ policyAnswer (length (now (nodes .entry))) (length (now (spans .entry))) (now (text .entry)) ⌝ }
-    ensures nodes { λ r. ⌜ now (nodes .exit) ≡ policyNodes (now (text .entry)) (now (nodes .entry)) (now (spans .entry)) ⌝ }
-    ensures spans { λ r. ⌜ now (spans .exit) ≡ policySpans (now (text .entry)) (now (nodes .entry)) (now (spans .entry)) ⌝ }
+    ensures nodes { λ r. ⌜ now (nodes .exit) ≡ policyNodesOver (now (text .entry)) (now (nodes .entry)) (now (spans .entry)) ⌝ }
+    ensures spans { λ r. ⌜ now (spans .exit) ≡ policySpansOver (now (text .entry)) (now (nodes .entry)) (now (spans .entry)) ⌝ }
 {
-    let tree = parser::read_zeroed(text, nodes);
-    read_on(text, tree, nodes, spans)
+    if spans.len() < SPAN_WORDS {
+        return too_short();
+    }
+    let tree = parser::read_over(text, nodes);
+    let read = map_tree(text, tree, nodes, &mut spans[..SPAN_WORDS]);
+    parser::row::clear(
+        &mut spans[..SPAN_WORDS],
+        span::spare(read.answer.refusal, SPAN_WORDS),
+    );
+    read
 }
 
-// From the tree's answer and its table to the policy.
-fn read_on(text: &[u8], tree: Answer, nodes: &[u32], spans: &mut [u32]) -> PolicyAnswer
-    requires { ⌜ TreeRead (now text) tree (now nodes) ⌝ }
-    requires { ⌜ 512 ≤ length (now spans) ⌝ }
-    ensures { λ r. ⌜ PolicyRead (now (text .entry)) tree (now (nodes .entry)) (now (spans .entry)) (now (spans .exit)) r ⌝ }
+// From the tree's answer and its rows to the policy, whose strings are put into the counted words of the span table.
+fn map_tree(text: &[u8], tree: Answer, nodes: &[u32], spans: &mut [u32]) -> PolicyAnswer
+    requires { ⌜ (tree .refusal ≡ 0 → Held (now nodes) (now text) 0) ⌝ }
+    requires { ⌜ length (now spans) ≡ spanWords ⌝ }
+    ensures { λ r. ⌜ TreeMapped (now (text .entry)) tree (now (nodes .entry)) (now (spans .entry)) (now (spans .exit)) r ⌝ }
 {
     let refusal = tree.refusal;
-    if refusal != 0 {
-        parser::row::clear(&mut spans[..SPAN_WORDS], span::spare(refusal, 0));
-        return PolicyAnswer {
-            answer: tree,
-            policy: span::no_policy(),
-        };
+    if refusal != ACCEPTED {
+        return without_policy(tree);
     }
     let mapped = mapping::map_cel_ast(text, nodes);
-    span::settle(nodes, mapped, tree, &mut spans[..SPAN_WORDS])
+    span::settle(nodes, mapped, tree, spans)
 }
 
 // A refusal of 1: nothing was read.
 fn too_short() -> PolicyAnswer
     ensures { λ r. ⌜ policyTold r ≡ policyAnswered (unread 1 0) ⌝ }
 {
+    without_policy(Answer {
+        refusal: TABLE_TOO_SHORT,
+        name: 0,
+        kind: 0,
+        place: 0,
+        nodes: 0,
+        depth: 0,
+    })
+}
+
+// An answer of reading a tree that stands for itself.
+pub(crate) fn without_policy(answer: Answer) -> PolicyAnswer
+    ensures { λ r. ⌜ policyTold r ≡ record { answer = told answer; policy = noPolicy } ⌝ }
+{
     PolicyAnswer {
-        answer: Answer {
-            refusal: parser::TABLE_TOO_SHORT,
-            name: 0,
-            kind: 0,
-            place: 0,
-            nodes: 0,
-            depth: 0,
-        },
+        answer,
         policy: span::no_policy(),
     }
 }

@@ -1,12 +1,12 @@
 // From the node table to a policy, or to a refusal of 7 to 16: document 01's four steps, over the nodes' numbers.
 ghost use mathlib.Core.Path.{_≡_};
-ghost use Prim.Native.Nat.{_+_, _≤_, _<_};
+ghost use Prim.Native.Nat.{_+_, _≤_};
+ghost use Rattle.cel_text.specs.Tree.{array, object};
 ghost use Rattle.cel_text.specs.Table.{kindNumber};
-ghost use Rattle.cel_text.specs.Tree.{object};
+ghost use Rattle.cel_policy.specs.Names.{ValidationArgs, Certification, RequestCertification};
 ghost use Rattle.cel_policy.specs.Mapping.{andThen, typed, lookup, exactlyOne, requestLists, requestPart, listOf, responsePart, certificationParts, validationArgs, mapping};
-ghost use Rattle.parser.specs.Kinds.{kindOf};
 ghost use Rattle.ast_mapping.specs.View.{nodeAt, children, typedAt, Held, Tabled};
-ghost use Rattle.ast_mapping.specs.Steps.{told, uses, foundAs, numbered, onlyAs, Checked, ListChecked, Listing, Requested, Headed, Responded, certifiedAs, Maps};
+ghost use Rattle.ast_mapping.specs.Steps.{expectedKind, refusalTold, wrongKind, fieldsUsed, foundAs, numbered, onlyAs, Checked, ListChecked, Listing, Requested, HeadersFound, Responded, certifiedAs, Maps};
 use crate::name;
 use crate::name::CERTIFICATION;
 use crate::name::CERTIFICATION_OBJECT;
@@ -29,17 +29,25 @@ use crate::row::Found;
 use cel_policy::EXCLUSIONS;
 use cel_policy::INCLUSIONS;
 use parser::ARRAY;
+use parser::EXTRANEOUS_REQUEST_CERTIFICATION_PROPERTY;
+use parser::EXTRANEOUS_RESPONSE_CERTIFICATION_PROPERTY;
+use parser::EXTRANEOUS_VALIDATION_ARGS_PROPERTY;
 use parser::FUNCTION;
+use parser::MISSING_FUNCTION_PARAMETER;
+use parser::MISSING_OBJECT_PROPERTY;
 use parser::Node;
 use parser::OBJECT;
 use parser::STRING;
+use parser::UNEXPECTED_NODE_NAME;
+use parser::UNEXPECTED_NODE_TYPE;
+use parser::row::read_row;
 
-// A refusal of 7 to 16: its number, the expected name and kind, and the node's number as an answer has it.
+// A refusal of 7 to 16: its number, the expected name and kind, and the node.
 pub(crate) struct Refusal {
     pub refusal: u32,
     pub name: u32,
     pub kind: u32,
-    pub node: u32,
+    pub node: Node,
 }
 
 // Whether a node is what it should be.
@@ -82,20 +90,25 @@ pub(crate) enum Mapped {
     Refused(Refusal),
 }
 
-// The fields that a refusal uses; the others are 0.
-fn refused(refusal: u32, name: u32, kind: u32, node: Node) -> Refusal
-    requires { ⌜ node .0 < 256 ⌝ }
-    ensures { λ r. ⌜ told r ≡ uses refusal name kind (node .0) ⌝ }
+// The kind that a name expects: a function, the lists of strings, and otherwise an object.
+fn expected_kind(name: u32) -> u32
+    ensures { λ r. ⌜ r ≡ kindNumber (expectedKind name) ⌝ }
 {
-    let node = node.0 as u32;
+    match name {
+        DEFAULT_CERTIFICATION => FUNCTION,
+        CERTIFIED_REQUEST_HEADERS..=CERTIFIED_QUERY_PARAMETERS => ARRAY,
+        CERTIFIED_RESPONSE_HEADERS..=RESPONSE_HEADER_EXCLUSIONS => ARRAY,
+        _ => OBJECT,
+    }
+}
+
+// The fields that a refusal uses; the others are 0.
+fn refused(refusal: u32, name: u32, node: Node) -> Refusal
+    ensures { λ r. ⌜ refusalTold r ≡ fieldsUsed refusal name (node .0) ⌝ }
+{
     match refusal {
-        7 => Refusal {
-            refusal,
-            name,
-            kind,
-            node,
-        },
-        8..=10 => Refusal {
+        UNEXPECTED_NODE_TYPE => unexpected_type(name, expected_kind(name), node),
+        UNEXPECTED_NODE_NAME..=MISSING_OBJECT_PROPERTY => Refusal {
             refusal,
             name,
             kind: 0,
@@ -110,82 +123,79 @@ fn refused(refusal: u32, name: u32, kind: u32, node: Node) -> Refusal
     }
 }
 
-// A node of this kind with this name. Its kind comes before its name.
-fn validate_node(text: &[u8], table: &[u32], node: Node, kind: u32, name: u32) -> Check
-    requires { ⌜ Held (now table) (now text) (node .0) ⌝ }
-    requires { ⌜ kindNumber (kindOf kind) ≡ kind ⌝ }
-    ensures { λ r. ⌜ Checked (now (table .entry)) (now (text .entry)) (node .0) kind name r ⌝ }
+// A node that is not of the kind that was expected.
+fn unexpected_type(name: u32, kind: u32, node: Node) -> Refusal
+    ensures { λ r. ⌜ refusalTold r ≡ wrongKind name kind (node .0) ⌝ }
 {
-    if row::word(table, node, row::KIND) != kind as usize {
-        return Check::Refused(refused(7, name, kind, node));
+    Refusal {
+        refusal: UNEXPECTED_NODE_TYPE,
+        name,
+        kind,
+        node,
     }
-    let from = row::word(table, node, row::FROM);
-    let to = row::word(table, node, row::TO);
-    if name::is_name(&text[from..to], name) {
+}
+
+// A node with this name, and of the kind that it expects. Its kind comes before its name.
+fn validate_node(text: &[u8], table: &[u32], node: Node, name: u32) -> Check
+    requires { ⌜ Held (now table) (now text) (node .0) ⌝ }
+    ensures { λ r. ⌜ Checked (now (table .entry)) (now (text .entry)) (node .0) name r ⌝ }
+{
+    let row = read_row(table, node);
+    if row.kind != expected_kind(name) {
+        return Check::Refused(refused(UNEXPECTED_NODE_TYPE, name, node));
+    }
+    if name::is_name_at(text, row.from, row.to, name) {
         return Check::Right;
     }
-    Check::Refused(refused(8, name, kind, node))
-}
-
-fn validate_object(text: &[u8], table: &[u32], node: Node, name: u32) -> Check
-    requires { ⌜ Held (now table) (now text) (node .0) ⌝ }
-    ensures { λ r. ⌜ Checked (now (table .entry)) (now (text .entry)) (node .0) 3 name r ⌝ }
-{
-    validate_node(text, table, node, OBJECT, name)
-}
-
-fn validate_function(text: &[u8], table: &[u32], node: Node, name: u32) -> Check
-    requires { ⌜ Held (now table) (now text) (node .0) ⌝ }
-    ensures { λ r. ⌜ Checked (now (table .entry)) (now (text .entry)) (node .0) 4 name r ⌝ }
-{
-    validate_node(text, table, node, FUNCTION, name)
+    Check::Refused(refused(UNEXPECTED_NODE_NAME, name, node))
 }
 
 // An array of strings. As long as its elements are strings, their numbers follow one another.
-fn validate_string_array(table: &[u32], array: Node, name: u32) -> Check
-    requires { ⌜ Tabled (now table) (array .0) ⌝ }
-    ensures { λ r. ⌜ ListChecked (now (table .entry)) (array .0) name r ⌝ }
+fn validate_string_array(table: &[u32], list: Node, name: u32) -> Check
+    requires { ⌜ Tabled (now table) (list .0) × (expectedKind name ≡ array) ⌝ }
+    ensures { λ r. ⌜ ListChecked (now (table .entry)) (list .0) name r ⌝ }
 {
-    if row::word(table, array, row::KIND) != ARRAY as usize {
-        return Check::Refused(refused(7, name, ARRAY, array));
+    let row = read_row(table, list);
+    if row.kind != expected_kind(name) {
+        return Check::Refused(refused(UNEXPECTED_NODE_TYPE, name, list));
     }
-    let end = row::word(table, array, row::PAST);
-    let mut next = array.0 + 1;
-    while next < end {
-        let element = Node(next);
-        if row::word(table, element, row::KIND) != STRING as usize {
-            return Check::Refused(refused(7, name, STRING, element));
+    let end = row.past;
+    let mut next = Node(list.0 + 1);
+    while next.0 < end.0 {
+        let element = read_row(table, next);
+        if element.kind != STRING {
+            return Check::Refused(unexpected_type(name, STRING, next));
         }
-        next += 1;
+        next = Node(next.0 + 1);
     }
     Check::Right
 }
 
 // One of two, in this object: else `both`, or the number after it where neither is there.
 fn exactly_one(first: Found, second: Found, both: u32, object: Node) -> Only
-    requires { ⌜ (11 ≤ both) × (both ≤ 15) × (object .0 < 256) ⌝ }
+    requires { ⌜ (11 ≤ both) × (both ≤ 15) ⌝ }
     ensures { λ r. ⌜ onlyAs numbered r ≡ exactlyOne both (both + 1) (object .0) (foundAs numbered first) (foundAs numbered second) ⌝ }
 {
     match first {
         Found::At(node) => match second {
-            Found::At(_) => Only::Refused(refused(both, 0, 0, object)),
+            Found::At(_) => Only::Refused(refused(both, 0, object)),
             Found::Nothing => Only::First(node),
         },
         Found::Nothing => match second {
             Found::At(node) => Only::Second(node),
-            Found::Nothing => Only::Refused(refused(both + 1, 0, 0, object)),
+            Found::Nothing => Only::Refused(refused(both + 1, 0, object)),
         },
     }
 }
 
 // The list of strings at this key of the object.
 fn string_list(text: &[u8], table: &[u32], object: Node, name: u32) -> Listed
-    requires { ⌜ Held (now table) (now text) (object .0) ⌝ }
+    requires { ⌜ Held (now table) (now text) (object .0) × (expectedKind name ≡ array) ⌝ }
     ensures { λ r. ⌜ Listing (now (table .entry)) (now (text .entry)) (object .0) name r ⌝ }
 {
     let found = row::lookup(text, table, object, name);
     let Found::At(list) = found else {
-        return Listed::Refused(refused(10, name, 0, object));
+        return Listed::Refused(refused(MISSING_OBJECT_PROPERTY, name, object));
     };
     let check = validate_string_array(table, list, name);
     if let Check::Refused(r) = check {
@@ -197,9 +207,9 @@ fn string_list(text: &[u8], table: &[u32], object: Node, name: u32) -> Listed
 // An object 8 with its two lists.
 fn request_lists(text: &[u8], table: &[u32], request: Node) -> Request
     requires { ⌜ Held (now table) (now text) (request .0) ⌝ }
-    ensures { λ r. ⌜ Requested (now (table .entry)) r (andThen (typed object 8 (nodeAt (now (table .entry)) (now (text .entry)) (request .0))) requestLists) ⌝ }
+    ensures { λ r. ⌜ Requested (now (table .entry)) r (andThen (typed object RequestCertification (nodeAt (now (table .entry)) (now (text .entry)) (request .0))) requestLists) ⌝ }
 {
-    let check = validate_object(text, table, request, REQUEST_CERTIFICATION_OBJECT);
+    let check = validate_node(text, table, request, REQUEST_CERTIFICATION_OBJECT);
     if let Check::Refused(r) = check {
         return Request::Refused(r);
     }
@@ -221,7 +231,12 @@ fn validate_request_certification(text: &[u8], table: &[u32], certification: Nod
 {
     let no = row::lookup(text, table, certification, NO_REQUEST_CERTIFICATION);
     let yes = row::lookup(text, table, certification, REQUEST_CERTIFICATION);
-    let only = exactly_one(no, yes, 13, certification);
+    let only = exactly_one(
+        no,
+        yes,
+        EXTRANEOUS_REQUEST_CERTIFICATION_PROPERTY,
+        certification,
+    );
     match only {
         Only::First(_) => Request::Absent,
         Only::Second(request) => request_lists(text, table, request),
@@ -231,14 +246,14 @@ fn validate_request_certification(text: &[u8], table: &[u32], certification: Nod
 
 // The strings under key `headers` of the list object at this key, where both keys are present.
 fn response_headers(text: &[u8], table: &[u32], object: Node, name: u32) -> Headers
-    requires { ⌜ Held (now table) (now text) (object .0) ⌝ }
-    ensures { λ r. ⌜ Headed (now (table .entry)) r (listOf name (lookup name (children (nodeAt (now (table .entry)) (now (text .entry)) (object .0))))) ⌝ }
+    requires { ⌜ Held (now table) (now text) (object .0) × (expectedKind name ≡ array) ⌝ }
+    ensures { λ r. ⌜ HeadersFound (now (table .entry)) r (listOf name (lookup name (children (nodeAt (now (table .entry)) (now (text .entry)) (object .0))))) ⌝ }
 {
     let found = row::lookup(text, table, object, name);
     let Found::At(list) = found else {
         return Headers::Good(Found::Nothing);
     };
-    let check = validate_object(text, table, list, RESPONSE_HEADER_LIST);
+    let check = validate_node(text, table, list, RESPONSE_HEADER_LIST);
     if let Check::Refused(r) = check {
         return Headers::Refused(r);
     }
@@ -260,9 +275,13 @@ fn validate_response_certification(text: &[u8], table: &[u32], certification: No
 {
     let found = row::lookup(text, table, certification, RESPONSE_CERTIFICATION);
     let Found::At(response) = found else {
-        return Only::Refused(refused(10, RESPONSE_CERTIFICATION, 0, certification));
+        return Only::Refused(refused(
+            MISSING_OBJECT_PROPERTY,
+            RESPONSE_CERTIFICATION,
+            certification,
+        ));
     };
-    let check = validate_object(text, table, response, RESPONSE_CERTIFICATION_OBJECT);
+    let check = validate_node(text, table, response, RESPONSE_CERTIFICATION_OBJECT);
     if let Check::Refused(r) = check {
         return Only::Refused(r);
     }
@@ -273,7 +292,12 @@ fn validate_response_certification(text: &[u8], table: &[u32], certification: No
     };
     let second = response_headers(text, table, response, RESPONSE_HEADER_EXCLUSIONS);
     match second {
-        Headers::Good(excluded) => exactly_one(included, excluded, 15, response),
+        Headers::Good(excluded) => exactly_one(
+            included,
+            excluded,
+            EXTRANEOUS_RESPONSE_CERTIFICATION_PROPERTY,
+            response,
+        ),
         Headers::Refused(r) => Only::Refused(r),
     }
 }
@@ -300,9 +324,9 @@ fn certified(request: Request, response: Only) -> Mapped
 // An object 5 with its two parts.
 fn validate_certification(text: &[u8], table: &[u32], certification: Node) -> Mapped
     requires { ⌜ Held (now table) (now text) (certification .0) ⌝ }
-    ensures { λ r. ⌜ Maps (now (table .entry)) r (andThen (typed object 5 (nodeAt (now (table .entry)) (now (text .entry)) (certification .0))) certificationParts) ⌝ }
+    ensures { λ r. ⌜ Maps (now (table .entry)) r (andThen (typed object Certification (nodeAt (now (table .entry)) (now (text .entry)) (certification .0))) certificationParts) ⌝ }
 {
-    let check = validate_object(text, table, certification, CERTIFICATION_OBJECT);
+    let check = validate_node(text, table, certification, CERTIFICATION_OBJECT);
     if let Check::Refused(r) = check {
         return Mapped::Refused(r);
     }
@@ -314,15 +338,15 @@ fn validate_certification(text: &[u8], table: &[u32], certification: Node) -> Ma
 // An object 2, and in it the policy.
 fn validate_arguments(text: &[u8], table: &[u32], arguments: Node) -> Mapped
     requires { ⌜ Held (now table) (now text) (arguments .0) ⌝ }
-    ensures { λ r. ⌜ Maps (now (table .entry)) r (andThen (typed object 2 (nodeAt (now (table .entry)) (now (text .entry)) (arguments .0))) validationArgs) ⌝ }
+    ensures { λ r. ⌜ Maps (now (table .entry)) r (andThen (typed object ValidationArgs (nodeAt (now (table .entry)) (now (text .entry)) (arguments .0))) validationArgs) ⌝ }
 {
-    let check = validate_object(text, table, arguments, VALIDATION_ARGS);
+    let check = validate_node(text, table, arguments, VALIDATION_ARGS);
     if let Check::Refused(r) = check {
         return Mapped::Refused(r);
     }
     let no = row::lookup(text, table, arguments, NO_CERTIFICATION);
     let yes = row::lookup(text, table, arguments, CERTIFICATION);
-    let only = exactly_one(no, yes, 11, arguments);
+    let only = exactly_one(no, yes, EXTRANEOUS_VALIDATION_ARGS_PROPERTY, arguments);
     match only {
         Only::First(_) => Mapped::Skip,
         Only::Second(certification) => validate_certification(text, table, certification),
@@ -336,12 +360,13 @@ pub(crate) fn map_cel_ast(text: &[u8], table: &[u32]) -> Mapped
     ensures { λ r. ⌜ Maps (now (table .entry)) r (mapping (nodeAt (now (table .entry)) (now (text .entry)) 0)) ⌝ }
 {
     let root = Node(0);
-    let call = validate_function(text, table, root, DEFAULT_CERTIFICATION);
+    let call = validate_node(text, table, root, DEFAULT_CERTIFICATION);
     if let Check::Refused(r) = call {
         return Mapped::Refused(r);
     }
-    if row::word(table, root, row::PAST) == 1 {
-        return Mapped::Refused(refused(9, VALIDATION_ARGS, 0, root));
+    let row = read_row(table, root);
+    if row.past.0 == 1 {
+        return Mapped::Refused(refused(MISSING_FUNCTION_PARAMETER, VALIDATION_ARGS, root));
     }
     validate_arguments(text, table, Node(1))
 }

@@ -1,9 +1,13 @@
 // The sixteen names of document 01, by their numbers, and how they are spelled.
 ghost use mathlib.Core.Path.{_≡_};
+ghost use Prim.Native.Nat.{_≤_};
 ghost use mathlib.Core.Bool.{_&&_};
+ghost use lib.ListN.{length};
+ghost use lib.Seq.{slice};
 ghost use lib.Dec.{eqb};
 ghost use Rattle.cel_policy.specs.Names.{same, spelling};
 ghost use Rattle.pieces.specs.Pieces.{Wrote};
+use parser::Place;
 
 pub const DEFAULT_CERTIFICATION: u32 = 1;
 
@@ -115,6 +119,16 @@ pub(crate) fn is_name(part: &[u8], name: u32) -> bool
         HEADERS => equal(part, &HEADERS_BYTES),
         _ => part.len() == 0,
     }
+}
+
+// The same of the bytes between two places of the text.
+pub(crate) fn is_name_at(text: &[u8], from: Place, to: Place, name: u32) -> bool
+    requires { ⌜ (from .0 ≤ to .0) × (to .0 ≤ length (now text)) ⌝ }
+    ensures { λ r. ⌜ r ≡ same (slice (from .0) (to .0) (now (text .entry))) (spelling name) ⌝ }
+{
+    let start = from.0;
+    let end = to.0;
+    is_name(&text[start..end], name)
 }
 
 // Writes the name with this number from place `at` on, and answers the place after it.

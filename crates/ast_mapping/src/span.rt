@@ -2,23 +2,28 @@
 ghost use mathlib.Core.Path.{_≡_};
 ghost use Prim.Native.Nat.{_+_, _*_, _≤_};
 ghost use lib.ListN.{length};
-ghost use Rattle.cel_policy.specs.Policy.{noPolicy, numbers as given};
+ghost use Rattle.cel_policy.specs.Policy.{Span, noPolicy, counted, numbers, stringCount};
+ghost use Rattle.cel_policy.specs.Mapping.{skipped};
+ghost use Rattle.cel_policy.specs.Spans.{spansLeft};
 ghost use Rattle.parser.specs.Found.{told};
 ghost use Rattle.ast_mapping.specs.declared.mapping.Mapped.the-variants.{ResponseOnly, Full};
 ghost use Rattle.ast_mapping.specs.View.{stringsOf, Tabled};
-ghost use Rattle.ast_mapping.specs.Steps.{mappedAs, MappedIn};
-ghost use Rattle.ast_mapping.specs.Spans.{PutList, Put, strings, few, spareFrom, answerAs, Refusing, Settled};
+ghost use Rattle.ast_mapping.specs.Steps.{refusalTold, Small, mappedAs, MappedIn};
+ghost use Rattle.ast_mapping.specs.Spans.{PutList, Put, stringsIn, few, spareFrom, refusedIn, Settled};
 use crate::PolicyAnswer;
 use crate::SPAN_WORDS;
 use crate::mapping::Mapped;
-use crate::row;
+use crate::mapping::Refusal;
+use crate::without_policy;
 use cel_policy::FULL;
 use cel_policy::Policy;
 use cel_policy::RESPONSE_ONLY;
 use cel_policy::SKIP;
+use parser::ACCEPTED;
 use parser::Answer;
 use parser::Node;
-use parser::ROW_WORDS;
+use parser::TABLE_TOO_SHORT;
+use parser::row::read_row;
 
 // Writes the strings of a list, the first as string `from`, and answers the number of the string after them.
 fn put_list(table: &[u32], list: Node, spans: &mut [u32], from: usize) -> usize
@@ -26,13 +31,15 @@ fn put_list(table: &[u32], list: Node, spans: &mut [u32], from: usize) -> usize
     requires { ⌜ 2 * (from + length (stringsOf (now table) (list .0))) ≤ length (now spans) ⌝ }
     ensures { λ r. ⌜ PutList (now (table .entry)) (list .0) (now (spans .entry)) (now (spans .exit)) from r ⌝ }
 {
-    let end = row::word(table, list, row::PAST);
-    let mut next = list.0 + 1;
+    let array = read_row(table, list);
+    let end = array.past;
+    let mut next = Node(list.0 + 1);
     let mut at = from;
-    while next < end {
-        spans[2 * at] = table[ROW_WORDS * next + row::FROM];
-        spans[2 * at + 1] = table[ROW_WORDS * next + row::TO];
-        next += 1;
+    while next.0 < end.0 {
+        let string = read_row(table, next);
+        spans[2 * at] = string.from.0 as u32;
+        spans[2 * at + 1] = string.to.0 as u32;
+        next = Node(next.0 + 1);
         at += 1;
     }
     at
@@ -40,10 +47,23 @@ fn put_list(table: &[u32], list: Node, spans: &mut [u32], from: usize) -> usize
 
 // The policy without a form: nothing was accepted.
 pub(crate) fn no_policy() -> Policy
-    ensures { λ r. ⌜ given r ≡ noPolicy ⌝ }
+    ensures { λ r. ⌜ numbers r ≡ noPolicy ⌝ }
 {
     Policy {
         form: 0,
+        kind: 0,
+        request: 0,
+        query: 0,
+        response: 0,
+    }
+}
+
+// The policy without lists.
+fn skip() -> Policy
+    ensures { λ r. ⌜ numbers r ≡ counted {A = Span} skipped ⌝ }
+{
+    Policy {
+        form: SKIP,
         kind: 0,
         request: 0,
         query: 0,
@@ -75,7 +95,7 @@ fn put_full(
     spans: &mut [u32],
 ) -> Policy
     requires { ⌜ Tabled (now table) (headers .0) × Tabled (now table) (query .0) × Tabled (now table) (list .0) ⌝ }
-    requires { ⌜ few (now spans) (strings (mappedAs (now table) (Full headers query kind list))) ⌝ }
+    requires { ⌜ few (now spans) (stringsIn (mappedAs (now table) (Full headers query kind list))) ⌝ }
     ensures { λ r. ⌜ Put (mappedAs (now (table .entry)) (Full headers query kind list)) (now (spans .entry)) (now (spans .exit)) r ⌝ }
 {
     let first = put_list(table, headers, spans, 0);
@@ -90,74 +110,58 @@ fn put_full(
     }
 }
 
-// Writes the strings of the policy, and answers its numbers.
-fn put_strings(table: &[u32], mapped: Mapped, spans: &mut [u32]) -> Policy
-    requires { ⌜ MappedIn (now table) mapped ⌝ }
-    requires { ⌜ few (now spans) (strings (mappedAs (now table) mapped)) ⌝ }
-    ensures { λ r. ⌜ Put (mappedAs (now (table .entry)) mapped) (now (spans .entry)) (now (spans .exit)) r ⌝ }
+// The first word after the strings of this policy.
+pub(crate) fn strings_end(policy: Policy) -> usize
+    ensures { λ r. ⌜ r ≡ 2 * stringCount (numbers policy) ⌝ }
 {
-    match mapped {
-        Mapped::Skip => Policy {
-            form: SKIP,
-            kind: 0,
-            request: 0,
-            query: 0,
-            response: 0,
-        },
-        Mapped::ResponseOnly(kind, list) => put_response(table, kind, list, spans),
-        Mapped::Full(headers, query, kind, list) => put_full(
-            table,
-            headers,
-            query,
-            kind,
-            list,
-            spans,
-        ),
-        Mapped::Refused(_) => no_policy(),
-    }
+    2 * (policy.request as usize + policy.query as usize + policy.response as usize)
 }
 
-// The first of the counted words that a read with this refusal leaves 0.
-pub(crate) fn spare(refusal: u32, strings: usize) -> usize
-    requires { ⌜ strings ≤ 256 ⌝ }
-    ensures { λ r. ⌜ r ≡ spareFrom refusal strings ⌝ }
+// The first of the counted words that a read with this refusal has to set to 0, where `end` is the first after the strings.
+pub(crate) fn spare(refusal: u32, end: usize) -> usize
+    ensures { λ r. ⌜ r ≡ spareFrom (spansLeft refusal) end ⌝ }
 {
     match refusal {
-        1 => SPAN_WORDS,
-        2..=16 => 0,
-        _ => 2 * strings,
+        ACCEPTED => end,
+        TABLE_TOO_SHORT => SPAN_WORDS,
+        _ => 0,
     }
 }
 
-// The tree's answer, or the refusal with the tree's nodes and depth.
-fn answer_of(tree: Answer, mapped: Mapped) -> Answer
-    ensures { λ r. ⌜ told r ≡ answerAs tree mapped ⌝ }
+// A refusal at a node of the tree, with the tree's nodes and depth.
+fn refused_in(tree: Answer, refusal: Refusal) -> Answer
+    requires { ⌜ Small refusal ⌝ }
+    ensures { λ r. ⌜ told r ≡ refusedIn (told tree) (refusalTold refusal) ⌝ }
 {
-    match mapped {
-        Mapped::Skip => tree,
-        Mapped::ResponseOnly(_, _) => tree,
-        Mapped::Full(_, _, _, _) => tree,
-        Mapped::Refused(r) => Answer {
-            refusal: r.refusal,
-            name: r.name,
-            kind: r.kind,
-            place: r.node,
-            nodes: tree.nodes,
-            depth: tree.depth,
-        },
+    Answer {
+        refusal: refusal.refusal,
+        name: refusal.name,
+        kind: refusal.kind,
+        place: refusal.node.0 as u32,
+        nodes: tree.nodes,
+        depth: tree.depth,
     }
 }
 
-// The answer of a tree that was mapped, and the counted words of the span table.
+// The answer of a tree that was mapped. The strings of a policy are put into the span table.
 pub(crate) fn settle(table: &[u32], mapped: Mapped, tree: Answer, spans: &mut [u32]) -> PolicyAnswer
     requires { ⌜ MappedIn (now table) mapped ⌝ }
-    requires { ⌜ (length (now spans) ≡ 512) × few (now spans) (strings (mappedAs (now table) mapped)) ⌝ }
-    requires { ⌜ (tree .refusal ≡ 0) × Refusing (mappedAs (now table) mapped) ⌝ }
+    requires { ⌜ few (now spans) (stringsIn (mappedAs (now table) mapped)) ⌝ }
     ensures { λ r. ⌜ Settled (mappedAs (now (table .entry)) mapped) tree (now (spans .entry)) (now (spans .exit)) r ⌝ }
 {
-    let policy = put_strings(table, mapped, spans);
-    let answer = answer_of(tree, mapped);
-    let count = policy.request as usize + policy.query as usize + policy.response as usize;
-    parser::row::clear(spans, spare(answer.refusal, count));
-    PolicyAnswer { answer, policy }
+    match mapped {
+        Mapped::Skip => PolicyAnswer {
+            answer: tree,
+            policy: skip(),
+        },
+        Mapped::ResponseOnly(kind, list) => PolicyAnswer {
+            answer: tree,
+            policy: put_response(table, kind, list, spans),
+        },
+        Mapped::Full(headers, query, kind, list) => PolicyAnswer {
+            answer: tree,
+            policy: put_full(table, headers, query, kind, list, spans),
+        },
+        Mapped::Refused(r) => without_policy(refused_in(tree, r)),
+    }
 }

@@ -43,15 +43,12 @@ fault-clears tooDeep = refl
 fault-clears tooMany = refl
 
 pub find-value : (x : Text) (w w′ : Words) (p : ℕ) → length x ≤ maxText → p ≡ endOf ascii x 0 → length x ≤ p → (s : Step) → Valued x w w′ 0 0 maxDepth 0 0 0 s → Finds x w w′ s
-find-value x w w′ p h e b (Next q m d) v =
+find-value x w w′ p h e b (Next r) v =
     record {
       found = v .tree;
       finds = find-read x p h e b ∙ ap found (v .reading root (record { below = refl; sofar = refl }));
-      counts = v .counts ∙ zero-add (nodes (v .tree));
-      deep = v .deep;
       rows-put = v .rows unkeyed refl refl;
-      room = v .room;
-      shallow = v .shallow;
+      sized = v .sized;
     }
 find-value x w w′ p h e b (Refused r q) v =
     record {
@@ -63,7 +60,7 @@ find-value x w w′ p h e b (Refused r q) v =
 -- ---- the answer and the table
 
 pub small : (x : Text) (w w′ : Words) (s : Step) → Finds x w w′ s → Small s
-small x w w′ (Next q m d) f = (f .room, f .shallow)
+small x w w′ (Next r) f = (f .sized .room, f .sized .shallow)
 small x w w′ (Refused r p) f = f .within
 
 find-wide : (x : Text) (n : ℕ) → nodeWords ≤ n → findTree stringSet n x ≡ findTree stringSet nodeWords x
@@ -96,7 +93,9 @@ put-front n ws w hs hw =
 module _ (x : Text) (w : Words) (h : nodeWords ≤ length w) where
   pub find-answer : (w′ : Words) (s : Step) → Finds x (take nodeWords w) w′ s → answerOf s ≡ treeAnswer (length w) x
   unfolding treeAnswer
-  find-answer w′ (Next q m d) f = rw (find-wide x (length w) h, f .finds, f .counts, f .deep)
+  find-answer w′ (Next r) f =
+      let counts : r .next .0 ≡ nodes (f .found) = f .sized .counts ∙ zero-add (nodes (f .found)) in
+      rw (find-wide x (length w) h, f .finds, counts, f .sized .deep)
   find-answer w′ (Refused r p) f = rw (find-wide x (length w) h, f .finds)
 
   over-found : (f : Found) → findTree stringSet nodeWords x ≡ f → nodesAfter holdOver f w ≡ treeOver x w
@@ -105,12 +104,12 @@ module _ (x : Text) (w : Words) (h : nodeWords ≤ length w) where
 
   over-front : (w′ : Words) (s : Step) → Finds x (take nodeWords w) w′ s → length w′ ≡ nodeWords
       → clearedFrom w′ (staleFrom (nodesLeft (answerOf s .refusal))) ++ drop nodeWords w ≡ treeOver x w
-  over-front w′ (Next q m d) f h′ =
+  over-front w′ (Next r) f h′ =
       let t : Tree = f .found in
-      let fits : length (rows t) ≤ nodeWords = omega (arith, length-rowsOf t unkeyed 0 0, f .counts, f .room) in
+      let fits : length (rows t) ≤ nodeWords = omega (arith, length-rowsOf t unkeyed 0 0, f .sized .counts, f .sized .room) in
       ap (λ (l : Words). l ++ drop nodeWords w) (clear-none w′ nodeWords h′ ∙ f .rows-put)
       ∙ put-front nodeWords (rows t) w fits h
-      ∙ over-found (tree t (q .0)) (f .finds)
+      ∙ over-found (tree t (r .end .0)) (f .finds)
   over-front w′ (Refused r p) f h′ =
       ap (λ (l : Left). clearedFrom w′ (staleFrom l) ++ drop nodeWords w) (f .clears)
       ∙ ap (λ (l : Words). l ++ drop nodeWords w) (clear-all w′ nodeWords h′)

@@ -7,35 +7,21 @@ use mathlib.Core.List.{[], _∷_}
 use lib.ListN.{length, drop, getD}
 use lib.Seq.{sets, length-sets}
 use lib.Dec.{eqb}
-use borrow.Author.Tests.{ne-eqb, eqb-true, eqb-false}
+use borrow.Author.Tests.{ne-eqb}
 use Rattle.cel_text.specs.Byte.{Text, blank, colon, comma}
 use Rattle.cel_text.specs.Tree.{Kind, array, object, function, closer, Key, key, unkeyed, container, Trees, ∅, _▸_∶_, nodesAll, depthAll, count}
-use Rattle.cel_text.specs.Reading.{Stack, inside, Frame, value, entry, State, before, begun, after, Step, go, refuse, syntax, refused, child, fresh, past, limits, maxNodes, withKey}
-use Rattle.cel_text.specs.Table.{Words, rowsOf, rowsAll, keyFrom, keyTo, rowWords}
+use Rattle.cel_text.specs.Reading.{Stack, inside, Frame, value, entry, State, before, begun, after, Step, go, refuse, syntax, child, fresh, past, limits, maxNodes, withKey}
+use Rattle.cel_text.specs.Table.{Words, rowsAll, rowWords}
 use Rattle.cel_text.specs.Laws.Run.{whole-resumes}
 use Rattle.parser.specs.Set.{stringSet}
+use Rattle.parser.specs.declared.Read.{Read}
 use Rattle.parser.specs.Run.{endOf, NamedAt}
 use Rattle.parser.specs.Kinds.{kindOf}
-use Rattle.parser.specs.Steps.{reads, goesOn, Around, RefusedBy, Whole, WholeList, Labelled, Coloned, Colonless}
+use Rattle.parser.specs.Steps.{reads, goesOn, Around, RefusedBy, Sized, Whole, framed, WholeChild, ChildRefused, WholeList}
 use Rattle.parser.proofs.Runs.{decide, end-within, byte-within}
 use Rattle.parser.proofs.Machine.{over-key, begun-closes, begun-child, after-closes, after-comma, after-other}
 use Rattle.parser.proofs.Rows.{rows-child}
-use Rattle.parser.proofs.Values.{Bounds, name-bounds}
-
--- an open container with its children so far and the key of the child that comes next
-abbrev pub framed : Kind → (o from to : ℕ) → Trees → Key → Frame
-framed c o from to ts k = record { kind = c; o = o; from = from; to = to; children = ts; next = k }
-
--- the key of a child, and the place where its value is due
-pub record Labelling (x : Text) (c : Kind) (p kf kt q : ℕ) : Type 0 where
-  pub label : Key
-  pub keyfrom : keyFrom label ≡ kf
-  pub keyto : keyTo label ≡ kt
-  pub due : (K : Stack) (o from to : ℕ) (ts : Trees) → reads (before (child c K (framed c o from to ts unkeyed))) x p ≡ reads (before (value (inside K (framed c o from to ts label)))) x q
-  pub later : p ≤ q
-  pub within : q ≤ length x
-  pub fromIn : kf ≤ length x
-  pub toIn : kt ≤ length x
+use Rattle.parser.proofs.Values.{name-bounds, sized-from}
 
 entry-goes : (K : Stack) (f : Frame) (from to p b : ℕ) → b ≡ colon → past stringSet limits (entry K f) from to p b ≡ go (before (value (inside K (withKey f (key from to)))))
 unfolding past
@@ -45,47 +31,76 @@ entry-stops : (K : Stack) (f : Frame) (from to p b : ℕ) → (b ≡ colon → �
 unfolding past
 entry-stops K f from to p b h = rw (ne-eqb b colon h)
 
-module _ {x : Text} {p kind kf kt e : ℕ} (l : Labelled x p kind kf kt e) (hp : p ≤ length x) where
-  pub labelling : {q : ℕ} → Coloned x e kind q → Labelling x (kindOf kind) p kf kt q
-  labelling {q = q} c = decide (eqb kind 3) (λ t. entry-due (eqb-true kind 3 t)) (λ t. value-due (eqb-false kind 3 t))
-    where
-      entry-due : kind ≡ 3 → Labelling x (kindOf kind) p kf kt q
-      entry-due k =
-          let n : NamedAt x p kf kt e = l .0 k in
-          let b : Bounds x p kf kt e = name-bounds x n hp in
-          let past-colon : q ≡ suc e = c .past k .1 in
-          let inside-text : e < length x = byte-within x e (λ z. omega (arith, c .past k .0)) in
-          record {
-            label = key kf kt;
-            keyfrom = refl;
-            keyto = refl;
-            due = λ K o from to ts. rw (k, past-colon) (over-key x n K (framed object o from to ts unkeyed) ∙ ap (λ (s : Step). goesOn s x e) (entry-goes K (framed object o from to ts unkeyed) kf kt e (getD x e 0) (c .past k .0)));
-            later = omega (arith, b .later);
-            within = omega arith;
-            fromIn = b .fromIn;
-            toIn = b .toIn;
-          }
+-- the stack around a child, whatever the child's key
+around-key : {K : Stack} {c : Kind} {o from to n left : ℕ} {ts : Trees} {k : Key} (k′ : Key)
+    → Around (inside K (framed c o from to ts k)) n left → Around (inside K (framed c o from to ts k′)) n left
+around-key k′ a = record { below = a .below; sofar = a .sofar }
 
-      value-due : (kind ≡ 3 → ⊥) → Labelling x (kindOf kind) p kf kt q
-      value-due k =
-          let none : (kf ≡ 0) × (kt ≡ 0) × (e ≡ p) = l .1 k in
-          let here : q ≡ p = c .same k ∙ none .2 in
-          record {
-            label = unkeyed;
-            keyfrom = sym (none .0);
-            keyto = sym (none .1);
-            due = λ K o from to ts. rw here (decide (eqb kind 2) (λ t. rw t) (λ t. rw (t, ne-eqb kind 3 k)));
-            later = omega arith;
-            within = omega arith;
-            fromIn = omega (arith, none .0);
-            toIn = omega (arith, none .1);
-          }
+-- an entry: its key, and what stands after it
+module _ {x : Text} {p kf kt e : ℕ} (named : NamedAt x p kf kt e) (hp : p ≤ length x) (n left : ℕ) where
+  pub no-colon : {r q : ℕ} → (getD x e 0 ≡ colon → ⊥) → r ≡ 4 → q ≡ e → ChildRefused object x p n left r q
+  no-colon h hr hq =
+      record {
+        fault = syntax;
+        number = sym hr;
+        refuses = λ K o from to ts a. rw hq (over-key x named K (framed object o from to ts unkeyed)
+            ∙ ap (λ (s : Step). goesOn s x e) (entry-stops K (framed object o from to ts unkeyed) kf kt e (getD x e 0) h));
+        within = omega (arith, hq, name-bounds x named hp .within);
+      }
 
-  pub unlabelled : {r q : ℕ} → Colonless x e kind r q → (K : Stack) (o from to : ℕ) (ts : Trees)
-      → reads (before (child (kindOf kind) K (framed (kindOf kind) o from to ts unkeyed))) x p ≡ refused syntax q
-  unlabelled c K o from to ts =
-      rw (c .object, c .there) (over-key x (l .0 (c .object)) K (framed object o from to ts unkeyed)
-      ∙ ap (λ (s : Step). goesOn s x e) (entry-stops K (framed object o from to ts unkeyed) kf kt e (getD x e 0) (c .other)))
+  module _ {q : ℕ} (h : getD x e 0 ≡ colon) (hq : q ≡ suc e) where
+    entry-due : (K : Stack) (o from to : ℕ) (ts : Trees)
+        → reads (before (child object K (framed object o from to ts unkeyed))) x p ≡ reads (before (value (inside K (framed object o from to ts (key kf kt))))) x q
+    entry-due K o from to ts =
+        rw hq (over-key x named K (framed object o from to ts unkeyed)
+        ∙ ap (λ (s : Step). goesOn s x e) (entry-goes K (framed object o from to ts unkeyed) kf kt e (getD x e 0) h))
+
+    pub entry-within : q ≤ length x
+    entry-within = let inside-text : e < length x = byte-within x e (λ z. omega (arith, h)) in omega arith
+
+    pub entry-whole : {w w′ : Words} {u : ℕ} {r : Read} → Whole (λ K. before (value K)) x w w′ q n left kf kt u r → WholeChild object x w w′ p n left u r
+    entry-whole v =
+        record {
+          label = key kf kt;
+          tree = v .tree;
+          reading = λ K o from to ts a. entry-due K o from to ts ∙ v .reading (inside K (framed object o from to ts (key kf kt))) a;
+          rows = v .rows (key kf kt) refl refl;
+          sized = sized-from (omega (arith, hq, name-bounds x named hp .later)) (v .sized);
+        }
+
+    pub entry-refused : {r q′ : ℕ} → RefusedBy (λ K. before (value K)) x q n left r q′ → ChildRefused object x p n left r q′
+    entry-refused v =
+        record {
+          fault = v .fault;
+          number = v .number;
+          refuses = λ K o from to ts a. entry-due K o from to ts ∙ v .refuses (inside K (framed object o from to ts (key kf kt))) (around-key (key kf kt) a);
+          within = v .within;
+        }
+
+-- a child that is no entry
+module _ (x : Text) (p kind n left : ℕ) (k : kind ≡ 3 → ⊥) where
+  value-due : (K : Stack) (o from to : ℕ) (ts : Trees)
+      → reads (before (child (kindOf kind) K (framed (kindOf kind) o from to ts unkeyed))) x p ≡ reads (before (value (inside K (framed (kindOf kind) o from to ts unkeyed)))) x p
+  value-due K o from to ts = decide (eqb kind 2) (λ t. rw t) (λ t. rw (t, ne-eqb kind 3 k))
+
+  pub value-whole : {w w′ : Words} {u : ℕ} {r : Read} → Whole (λ K. before (value K)) x w w′ p n left 0 0 u r → WholeChild (kindOf kind) x w w′ p n left u r
+  value-whole v =
+      record {
+        label = unkeyed;
+        tree = v .tree;
+        reading = λ K o from to ts a. value-due K o from to ts ∙ v .reading (inside K (framed (kindOf kind) o from to ts unkeyed)) a;
+        rows = v .rows unkeyed refl refl;
+        sized = v .sized;
+      }
+
+  pub value-refused : {r q : ℕ} → RefusedBy (λ K. before (value K)) x p n left r q → ChildRefused (kindOf kind) x p n left r q
+  value-refused v =
+      record {
+        fault = v .fault;
+        number = v .number;
+        refuses = λ K o from to ts a. value-due K o from to ts ∙ v .refuses (inside K (framed (kindOf kind) o from to ts unkeyed)) a;
+        within = v .within;
+      }
 
 -- no closer is 0
 closer-some : (c : Kind) → closer c ≡ 0 → ⊥
@@ -135,60 +150,56 @@ module _ {x : Text} {at p n left : ℕ} {c : Kind} (e : p ≡ endOf blank x at) 
       }
 
   -- a container without children
-  pub empty-list : {w w′ : Words} → getD x p 0 ≡ closer c → w′ ≡ sets w (rowWords * n + 6) (0 ∷ (n + 1) ∷ []) → WholeList x w w′ at n c left (p + 1) (n + 1) 1
-  empty-list h hw =
+  pub empty-list : {w w′ : Words} (r : Read) → r .end .0 ≡ suc p → r .next .0 ≡ suc n → r .depth ≡ 1
+      → getD x p 0 ≡ closer c → w′ ≡ sets w (rowWords * n + 6) (0 ∷ r .next .0 ∷ []) → WholeList x w w′ at n c left r
+  empty-list r er en ed h hw =
       let inside-text : p < length x = byte-within x p (λ z. closer-some c (sym h ∙ z)) in
       record {
         children = ∅;
-        reading = λ K o from to a. rw add-one (begun-closes K (fresh c o from to) x at p e h ∙ whole-resumes stringSet limits K (container c o from to (suc p) ∅) p (drop (suc p) x));
-        counts = omega arith;
-        deep = refl;
+        reading = λ K o from to a. rw er (begun-closes K (fresh c o from to) x at p e h ∙ whole-resumes stringSet limits K (container c o from to (suc p) ∅) p (drop (suc p) x));
         rows = hw;
-        later = omega (arith, e);
-        within = omega arith;
-        room = few;
-        shallow = omega arith;
+        sized = λ o from to q. record {
+          counts = omega (arith, en);
+          deep = ed;
+          later = omega (arith, er, e);
+          within = omega (arith, er);
+          more = omega (arith, en);
+          room = omega (arith, en);
+          shallow = omega (arith, ed);
+        };
       }
 
--- the stack around a child
+-- the stack around the child that is due
 around-child : {K : Stack} {n left m o from to : ℕ} {c : Kind} {ts : Trees} {k : Key} → Around K n (suc left) → m ≡ suc n + nodesAll ts → Around (inside K (framed c o from to ts k)) m left
 around-child a e = record { below = omega (arith, a .below); sofar = omega (arith, a .sofar) }
 
 module _ {x : Text} {w w′ : Words} {at n : ℕ} {c : Kind} {left p m i d : ℕ} (s : Due-child x w w′ at n c left p m i d) where
-  module _ {kf kt q : ℕ} (l : Labelling x c p kf kt q) where
-    to-value : (K : Stack) (o from to : ℕ) → Around K n (suc left) → reads (begun K (fresh c o from to)) x at ≡ reads (before (value (inside K (framed c o from to (s .children) (l .label))))) x q
-    to-value K o from to a = s .reading K o from to a ∙ l .due K o from to (s .children)
+  pub child-read : {w″ : Words} {u d′ : ℕ} {r : Read} → u ≡ suc n → d′ ≡ max d (r .depth) → WholeChild c x w′ w″ p m left u r
+      → Read-child x w w″ at n c left (r .end .0) (r .next .0) (i + 1) d′
+  child-read {w″ = w″} {u = u} {r = r} hu hd v =
+      let z : Sized (v .tree) x p m left r = v .sized in
+      record {
+        children = s .children ▸ v .label ∶ v .tree;
+        reading = λ K o from to a. s .reading K o from to a ∙ v .reading K o from to (s .children) (around-child a (s .counts));
+        counts = omega (arith, z .counts, s .counts);
+        number = omega (arith, s .number);
+        deep = hd ∙ rw (s .deep, z .deep);
+        rows = v .rows ∙ rw (s .rows, hu) (rows-child w (s .children) (v .label) (v .tree) (suc n) (suc n) m (s .counts));
+        later = omega (arith, s .later, z .later);
+        within = z .within;
+        room = z .room;
+        fewer = omega (arith, s .fewer, z .more);
+        shallow = omega (arith, hd, s .shallow, z .shallow);
+      }
 
-    pub child-read : {w″ : Words} {u q′ m′ d′ d″ : ℕ} → u ≡ suc n → d″ ≡ max d d′ → Whole (λ K. before (value K)) x w′ w″ q m left kf kt u q′ m′ d′ → Read-child x w w″ at n c left q′ m′ (i + 1) d″
-    child-read {w″ = w″} {u = u} {m′ = m′} hu hd v =
-        let child-rows : w″ ≡ sets w′ (rowWords * m) (rowsOf (v .tree) (l .label) u m) = v .rows (l .label) (l .keyfrom) (l .keyto) in
-        record {
-          children = s .children ▸ l .label ∶ v .tree;
-          reading = λ K o from to a. to-value K o from to a ∙ v .reading (inside K (framed c o from to (s .children) (l .label))) (around-child a (s .counts));
-          counts = omega (arith, v .counts, s .counts);
-          number = omega (arith, s .number);
-          deep = hd ∙ rw (s .deep, v .deep);
-          rows = child-rows ∙ rw (s .rows, hu) (rows-child w (s .children) (l .label) (v .tree) (suc n) (suc n) m (s .counts));
-          later = omega (arith, s .later, l .later, v .later);
-          within = v .within;
-          room = v .room;
-          fewer = omega (arith, s .fewer, v .more);
-          shallow = omega (arith, hd, s .shallow, v .shallow);
-        }
-
-    pub child-refused : {r q′ : ℕ} → RefusedBy (λ K. before (value K)) x q m left r q′ → (o from to : ℕ) → RefusedBy (λ K. begun K (fresh c o from to)) x at n (suc left) r q′
-    child-refused v o from to =
-        record {
-          fault = v .fault;
-          number = v .number;
-          refuses = λ K a. to-value K o from to a ∙ v .refuses (inside K (framed c o from to (s .children) (l .label))) (around-child a (s .counts));
-          within = v .within;
-        }
-
-  pub key-refused : {q : ℕ} → q ≤ length x → ((K : Stack) (o from to : ℕ) (ts : Trees) → reads (before (child c K (framed c o from to ts unkeyed))) x p ≡ refused syntax q)
-      → (o from to : ℕ) → RefusedBy (λ K. begun K (fresh c o from to)) x at n (suc left) 4 q
-  key-refused h g o from to =
-      record { fault = syntax; number = refl; refuses = λ K a. s .reading K o from to a ∙ g K o from to (s .children); within = h }
+  pub child-refused : {r q : ℕ} → ChildRefused c x p m left r q → (o from to : ℕ) → RefusedBy (λ K. begun K (fresh c o from to)) x at n (suc left) r q
+  child-refused v o from to =
+      record {
+        fault = v .fault;
+        number = v .number;
+        refuses = λ K a. s .reading K o from to a ∙ v .refuses K o from to (s .children) (around-child a (s .counts));
+        within = v .within;
+      }
 
 module _ {x : Text} {w w′ : Words} {at n : ℕ} {c : Kind} {left p m i d : ℕ} (s : Read-child x w w′ at n c left p m i d) (q : ℕ) (e : q ≡ endOf blank x p) where
   stop-in : q ≤ length x
@@ -211,20 +222,24 @@ module _ {x : Text} {w w′ : Words} {at n : ℕ} {c : Kind} {left p m i d : ℕ
         shallow = s .shallow;
       }
 
-  pub list-closed : {w″ : Words} → getD x q 0 ≡ closer c → w″ ≡ sets w′ (rowWords * n + 6) (i ∷ m ∷ []) → WholeList x w w″ at n c left (q + 1) m (d + 1)
-  list-closed h hw =
+  pub list-closed : {w″ : Words} (r : Read) → r .end .0 ≡ suc q → r .next .0 ≡ m → r .depth ≡ d + 1
+      → getD x q 0 ≡ closer c → w″ ≡ sets w′ (rowWords * n + 6) (i ∷ r .next .0 ∷ []) → WholeList x w w″ at n c left r
+  list-closed r er en ed h hw =
       let inside-text : q < length x = byte-within x q (λ z. closer-some c (sym h ∙ z)) in
       record {
         children = s .children;
-        reading = λ K o from to a. rw add-one (s .reading K o from to a ∙ after-closes K (framed c o from to (s .children) unkeyed) x p q e h
+        reading = λ K o from to a. rw er (s .reading K o from to a ∙ after-closes K (framed c o from to (s .children) unkeyed) x p q e h
             ∙ whole-resumes stringSet limits K (container c o from to (suc q) (s .children)) q (drop (suc q) x));
-        counts = s .counts;
-        deep = omega (arith, s .deep);
         rows = hw ∙ rw (s .rows, s .number);
-        later = omega (arith, s .later, e);
-        within = omega arith;
-        room = s .room;
-        shallow = omega (arith, s .shallow);
+        sized = λ o from to q′. record {
+          counts = omega (arith, en, s .counts);
+          deep = omega (arith, ed, s .deep);
+          later = omega (arith, er, s .later, e);
+          within = omega (arith, er);
+          more = omega (arith, en, s .fewer);
+          room = omega (arith, en, s .room);
+          shallow = omega (arith, ed, s .shallow);
+        };
       }
 
   pub neither-refused : (getD x q 0 ≡ closer c → ⊥) → (getD x q 0 ≡ comma → ⊥) → (o from to : ℕ) → RefusedBy (λ K. begun K (fresh c o from to)) x at n (suc left) 4 q

@@ -1,5 +1,5 @@
 -- The steps of reading a value, put together: from what the parts find to what the machine does from the value's start. Assumes nothing.
-use mathlib.Core.Path.{_≡_, refl, sym, ap, _∙_}
+use mathlib.Core.Path.{_≡_, refl, sym, ap, subst, _∙_}
 use Prim.Native.Nat.{ℕ, suc, _+_, _*_, _≤_, _<_}
 use native.Mathlib.Numerals.{add-one}
 use native.Mathlib.Omega.{arith}
@@ -8,16 +8,17 @@ use mathlib.Core.List.{[], _∷_}
 use lib.ListN.{length, drop, getD}
 use lib.Seq.{sets}
 use lib.Dec.{eqb}
-use borrow.Author.Tests.{eq-eqb, ne-eqb}
-use Rattle.cel_text.specs.Byte.{Text, blank, identByte}
-use Rattle.cel_text.specs.Tree.{string, container}
+use borrow.Author.Tests.{eq-eqb, ne-eqb, eqb-true, eqb-false}
+use Rattle.cel_text.specs.Byte.{Text, blank, identByte, quote}
+use Rattle.cel_text.specs.Tree.{Tree, string, container, nodesAll}
 use Rattle.cel_text.specs.Reading.{Stack, inside, level, opened, value, State, before, quoted, begun, Step, syntax, tooDeep, tooMany, refused, fresh, enter, enterString, limits, maxDepth, maxNodes}
 use Rattle.cel_text.specs.Table.{Words, kindNumber, rowWords}
 use Rattle.cel_text.specs.Laws.Run.{whole-resumes}
 use Rattle.parser.specs.Set.{stringSet}
+use Rattle.parser.specs.declared.Read.{Read}
 use Rattle.parser.specs.Run.{endOf, NamedAt}
 use Rattle.parser.specs.Kinds.{kindOf, openerKind, opens, openState}
-use Rattle.parser.specs.Steps.{reads, goesOn, Around, RefusedBy, Headed, Entered, Barred, Whole, WholeList}
+use Rattle.parser.specs.Steps.{reads, goesOn, Around, RefusedBy, Headed, Entered, Barred, Sized, Whole, WholeList}
 use Rattle.parser.proofs.Runs.{decide, end-within, byte-within}
 use Rattle.parser.proofs.Machine.{named-from, over-opener, over-string}
 use Rattle.parser.proofs.Rows.{rows-string, rows-container}
@@ -46,11 +47,11 @@ module _ (kind p n left : ℕ) where
   opens-container : (kind ≡ 0 → ⊥) → (kind ≡ 1 → ⊥) → (K : Stack) (from to : ℕ) → opens kind K from to p ≡ enter stringSet limits (kindOf kind) K from to p
   opens-container h₀ h₁ K from to = rw (ne-eqb kind 0 h₀, ne-eqb kind 1 h₁)
 
-  pub barred-string : kind ≡ 1 → n ≡ maxNodes → Barred kind p n left 6 p
+  barred-string : kind ≡ 1 → n ≡ maxNodes → Barred kind p n left 6 p
   unfolding enterString
   barred-string e full = record { fault = tooMany; number = refl; refuses = λ K from to a. opens-string e K from to ∙ rw (around-full a full); there = refl }
 
-  pub entered-string : kind ≡ 1 → (n ≡ maxNodes → ⊥) → n ≤ maxNodes → Entered kind p n left (p + 1)
+  entered-string : kind ≡ 1 → (n ≡ maxNodes → ⊥) → n ≤ maxNodes → Entered kind p n left (p + 1)
   unfolding enterString
   entered-string e some few =
       record {
@@ -66,12 +67,12 @@ module _ (kind p n left : ℕ) where
     unfolding enter
     barred-deep e = record { fault = tooDeep; number = refl; refuses = λ K from to a. opens-container h₀ h₁ K from to ∙ rw (around-deep a e); there = refl }
 
-    pub barred-many : (left ≡ 0 → ⊥) → n ≡ maxNodes → Barred kind p n left 6 p
+    barred-many : (left ≡ 0 → ⊥) → n ≡ maxNodes → Barred kind p n left 6 p
     unfolding enter
     barred-many l full =
         record { fault = tooMany; number = refl; refuses = λ K from to a. opens-container h₀ h₁ K from to ∙ rw (around-shallow a l, around-full a full); there = refl }
 
-    pub entered-container : (left ≡ 0 → ⊥) → (n ≡ maxNodes → ⊥) → n ≤ maxNodes → Entered kind p n left (p + 1)
+    entered-container : (left ≡ 0 → ⊥) → (n ≡ maxNodes → ⊥) → n ≤ maxNodes → Entered kind p n left (p + 1)
     unfolding enter
     entered-container l some few =
         record {
@@ -81,6 +82,17 @@ module _ (kind p n left : ℕ) where
           deeper = λ h. omega arith;
           goes = λ K from to a. opens-container h₀ h₁ K from to ∙ rw (around-shallow a l, around-room a some, ne-eqb kind 1 h₁);
         }
+
+  -- a string, or a container that may open here
+  module _ (h₀ : kind ≡ 0 → ⊥) (h₁ : (kind ≡ 1 → ⊥) → left ≡ 0 → ⊥) where
+    pub barred-full : n ≡ maxNodes → Barred kind p n left 6 p
+    barred-full full =
+        decide (eqb kind 1) (λ t. barred-string (eqb-true kind 1 t) full) (λ t. barred-many h₀ (eqb-false kind 1 t) (h₁ (eqb-false kind 1 t)) full)
+
+    pub entered : (n ≡ maxNodes → ⊥) → n ≤ maxNodes → Entered kind p n left (p + 1)
+    entered some few =
+        decide (eqb kind 1) (λ t. entered-string (eqb-true kind 1 t) some few)
+        (λ t. entered-container h₀ (eqb-false kind 1 t) (h₁ (eqb-false kind 1 t)) some few)
 
 -- ---- what opens a value
 
@@ -131,21 +143,22 @@ headed x {p} {from} {to} {end} n h kind from′ to′ e ef et =
 -- ---- a value, from where it is due
 
 -- what is read from a later place in another state is read from here, where the machine gets there
-pub whole-from : {st st′ : Stack → State} {x : Text} {w w′ : Words} {at p n left kf kt u q m d : ℕ} → ((K : Stack) → Around K n left → reads (st K) x at ≡ reads (st′ K) x p) → at ≤ p
-    → Whole st′ x w w′ p n left kf kt u q m d → Whole st x w w′ at n left kf kt u q m d
-whole-from gets h v =
+pub sized-from : {t : Tree} {x : Text} {at p n left : ℕ} {r : Read} → at ≤ p → Sized t x p n left r → Sized t x at n left r
+sized-from h s =
     record {
-      tree = v .tree;
-      reading = λ K a. gets K a ∙ v .reading K a;
-      counts = v .counts;
-      deep = v .deep;
-      rows = v .rows;
-      later = omega (arith, v .later);
-      within = v .within;
-      more = v .more;
-      room = v .room;
-      shallow = v .shallow;
+      counts = s .counts;
+      deep = s .deep;
+      later = omega (arith, s .later);
+      within = s .within;
+      more = s .more;
+      room = s .room;
+      shallow = s .shallow;
     }
+
+pub whole-from : {st st′ : Stack → State} {x : Text} {w w′ : Words} {at p n left kf kt u : ℕ} {r : Read}
+    → ((K : Stack) → Around K n left → reads (st K) x at ≡ reads (st′ K) x p) → at ≤ p
+    → Whole st′ x w w′ p n left kf kt u r → Whole st x w w′ at n left kf kt u r
+whole-from gets h v = record { tree = v .tree; reading = λ K a. gets K a ∙ v .reading K a; rows = v .rows; sized = sized-from h (v .sized) }
 
 pub refused-from : {st st′ : Stack → State} {x : Text} {at p n left r q : ℕ} → ((K : Stack) → Around K n left → reads (st K) x at ≡ reads (st′ K) x p)
     → RefusedBy st′ x p n left r q → RefusedBy st x at n left r q
@@ -175,21 +188,20 @@ module _ {x : Text} {at kind from to o : ℕ} (h : Headed x at kind from to o) (
     value-later = omega (arith, h .later, e .next)
 
     -- a container whose row was begun before its list was read
-    pub value-list : {w w₁ w₂ : Words} {left′ kf kt u q′ m d : ℕ} → (kind ≡ 1 → ⊥) → left ≡ suc left′ → w₁ ≡ sets w (rowWords * n) (kind ∷ from ∷ to ∷ kf ∷ kt ∷ u ∷ [])
-        → WholeList x w₁ w₂ q n (kindOf kind) left′ q′ m d → Whole (λ K. before (value K)) x w w₂ at n left kf kt u q′ m d
-    value-list {w = w} {w₁ = w₁} {left′ = left′} {kf = kf} {kt = kt} {u = u} {q′ = q′} {m = m} k hl hw v =
-        let begun-row : w₁ ≡ sets w (rowWords * n) (kindNumber (kindOf kind) ∷ from ∷ to ∷ kf ∷ kt ∷ u ∷ []) = hw ∙ ap (λ (i : ℕ). sets w (rowWords * n) (i ∷ from ∷ to ∷ kf ∷ kt ∷ u ∷ [])) (sym (h .numbered (e .some) k)) in
+    pub value-list : {w w₁ w₂ : Words} {left′ kf kt u : ℕ} {r : Read} → (kind ≡ 1 → ⊥) → left ≡ suc left′ → w₁ ≡ sets w (rowWords * n) (kind ∷ from ∷ to ∷ kf ∷ kt ∷ u ∷ [])
+        → WholeList x w₁ w₂ q n (kindOf kind) left′ r → Whole (λ K. before (value K)) x w w₂ at n left kf kt u r
+    value-list {w = w} {w₁ = w₁} {left′ = left′} {kf = kf} {kt = kt} {u = u} {r = r} k hl hw v =
+        let t : Tree = container (kindOf kind) o from to (r .end .0) (v .children) in
+        let z : Sized t x q n (suc left′) r = v .sized o from to (r .end .0) in
+        let begun-row : w₁ ≡ sets w (rowWords * n) (kindNumber (kindOf kind) ∷ from ∷ to ∷ kf ∷ kt ∷ u ∷ [])
+        = hw ∙ ap (λ (i : ℕ). sets w (rowWords * n) (i ∷ from ∷ to ∷ kf ∷ kt ∷ u ∷ [])) (sym (h .numbered (e .some) k)) in
+        let counts : r .next .0 ≡ suc n + nodesAll (v .children) = omega (arith, z .counts) in
         record {
-          tree = container (kindOf kind) o from to q′ (v .children);
+          tree = t;
           reading = λ K a. at-container k K a ∙ v .reading K o from to (record { below = ap (λ (l : ℕ). level K + l) (sym hl) ∙ a .below; sofar = a .sofar });
-          counts = omega (arith, v .counts);
-          deep = v .deep;
-          rows = λ i ef et. v .rows ∙ rw begun-row (rows-container w (kindOf kind) o from to q′ kf kt u n m (v .children) i ef et (v .counts));
-          later = omega (arith, v .later, h .later, e .next);
-          within = v .within;
-          more = omega (arith, v .counts);
-          room = v .room;
-          shallow = omega (arith, v .shallow);
+          rows = λ i ef et. v .rows
+              ∙ rw begun-row (rows-container w (kindOf kind) o from to (r .end .0) kf kt u n (r .next .0) (v .children) i ef et counts);
+          sized = sized-from value-later (subst (λ (l : ℕ). Sized t x q n l r) (sym hl) z);
         }
 
 -- ---- a string, from the place after its first quote
@@ -198,29 +210,34 @@ module _ (x : Text) (o at to end n left : ℕ) (ht : to ≡ endOf stringSet x at
   end-in : end ≤ length x
   end-in = rw he (end-within blank x to (rw ht (end-within stringSet x at hi)))
 
-  pub string-refused : (getD x end 0 ≡ 34 → ⊥) → RefusedBy (λ K. quoted K o) x at n left 4 end
+  pub string-refused : (getD x end 0 ≡ quote → ⊥) → RefusedBy (λ K. quoted K o) x at n left 4 end
   string-refused h =
       record {
         fault = syntax;
         number = refl;
-        refuses = λ K a. over-string K o x at to end ht he ∙ rw (ne-eqb (getD x end 0) 34 h);
+        refuses = λ K a. over-string K o x at to end ht he ∙ rw (ne-eqb (getD x end 0) quote h);
         within = end-in;
       }
 
-  pub string-whole : {w w₁ w₂ : Words} {kf kt u : ℕ} → getD x end 0 ≡ 34 → n < maxNodes → at ≡ suc o
-      → w₁ ≡ sets w (rowWords * n) (1 ∷ at ∷ to ∷ kf ∷ kt ∷ u ∷ []) → w₂ ≡ sets w₁ (rowWords * n + 6) (0 ∷ (n + 1) ∷ [])
-      → Whole (λ K. quoted K o) x w w₂ at n left kf kt u (end + 1) (n + 1) 0
-  string-whole {w = w} {kf = kf} {kt = kt} {u = u} h room ho h₁ h₂ =
+  pub string-whole : {w w₁ w₂ : Words} {kf kt u : ℕ} (r : Read) → r .end .0 ≡ suc end → r .next .0 ≡ suc n → r .depth ≡ 0
+      → getD x end 0 ≡ quote → n < maxNodes → at ≡ suc o
+      → w₁ ≡ sets w (rowWords * n) (1 ∷ at ∷ to ∷ kf ∷ kt ∷ u ∷ []) → w₂ ≡ sets w₁ (rowWords * n + 6) (0 ∷ r .next .0 ∷ [])
+      → Whole (λ K. quoted K o) x w w₂ at n left kf kt u r
+  string-whole {w = w} {kf = kf} {kt = kt} {u = u} r er en ed h room ho h₁ h₂ =
       let inside : end < length x = byte-within x end (λ z. omega (arith, h)) in
+      let t : Tree = string o to (suc end) in
       record {
-        tree = string o to (suc end);
-        reading = λ K a. over-string K o x at to end ht he ∙ rw (eq-eqb (getD x end 0) 34 h, add-one) (whole-resumes stringSet limits K (string o to (suc end)) end (drop (suc end) x));
-        counts = refl;
-        deep = refl;
-        rows = λ k ef et. h₂ ∙ rw (h₁, ho, add-one) (rows-string w o to (suc end) kf kt u n k ef et);
-        later = omega (arith, ht, he);
-        within = omega arith;
-        more = omega arith;
-        room = omega arith;
-        shallow = omega arith;
+        tree = t;
+        reading = λ K a. over-string K o x at to end ht he ∙ rw (eq-eqb (getD x end 0) quote h, er) (whole-resumes stringSet limits K t end (drop (suc end) x));
+        rows = λ k ef et. h₂ ∙ rw (h₁, ho, en) (rows-string w o to (suc end) kf kt u n k ef et);
+        sized =
+            record {
+              counts = omega (arith, en);
+              deep = ed;
+              later = omega (arith, er, ht, he);
+              within = omega (arith, er);
+              more = omega (arith, en);
+              room = omega (arith, en);
+              shallow = omega (arith, ed);
+            };
       }

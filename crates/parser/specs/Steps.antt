@@ -6,15 +6,17 @@ use mathlib.Core.List.{[], _∷_}
 use lib.ListN.{length, drop, getD}
 use lib.Seq.{sets}
 use Rattle.cel_text.specs.Byte.{Text, colon}
-use Rattle.cel_text.specs.Tree.{Kind, Key, Tree, Trees, container, nodes, nodesAll, depth, depthAll, count}
-use Rattle.cel_text.specs.Reading.{Stack, level, opened, State, before, value, quoted, begun, fresh, Fault, Outcome, refused, follow, refuse, go, run, limits, maxDepth, maxNodes}
+use Rattle.cel_text.specs.Tree.{Kind, Key, unkeyed, Tree, Trees, container, nodes, depth, count}
+use Rattle.cel_text.specs.Reading.{Stack, inside, Frame, level, opened, State, before, value, quoted, begun, child, fresh, Fault, syntax, Outcome, refused, follow, refuse, go, run, limits, maxDepth, maxNodes}
 use Rattle.cel_text.specs.Table.{Words, rowsOf, rowsAll, kindNumber, keyFrom, keyTo, rowWords, nodeWords}
 use Rattle.cel_text.specs.Answer.{faultNumber, maxText}
 use Rattle.cel_text.specs.Laws.Run.{resume}
 use Rattle.parser.specs.Set.{stringSet}
+use Rattle.parser.specs.declared.Read.{Read}
 use Rattle.parser.specs.declared.Step.{Step}
 use Rattle.parser.specs.declared.Step.the-variants.{Next, Refused}
-use Rattle.parser.specs.Run.{NamedAt}
+use Rattle.parser.specs.declared.value.Pass.{Pass}
+use Rattle.parser.specs.declared.value.Pass.the-variants.{Past, Stopped}
 use Rattle.parser.specs.Kinds.{kindOf, opens, openState}
 
 -- the machine at place p of x
@@ -69,63 +71,77 @@ pub record Barred (kind p n left r q : ℕ) : Type 0 where
   pub refuses : (K : Stack) (from to : ℕ) → Around K n left → opens kind K from to p ≡ refuse fault
   pub there : q ≡ p
 
-abbrev pub Opens : (kind p n left : ℕ) → Step → Type 0
-Opens kind p n left (Next q m d) = Entered kind p n left (q .0)
-Opens kind p n left (Refused r q) = Barred kind p n left r (q .0)
+abbrev pub Opens : (kind p n left : ℕ) → Pass → Type 0
+Opens kind p n left (Past q) = Entered kind p n left (q .0)
+Opens kind p n left (Stopped r q) = Barred kind p n left r (q .0)
 
--- a whole value, from a state for each stack around: its tree, the place after it, its nodes, its depth and its rows
-pub record Whole (st : Stack → State) (x : Text) (w w′ : Words) (at n left kf kt u q m d : ℕ) : Type 0 where
+-- what is told of a value that was read from place `at` on, as node n, where `left` more containers may open
+pub record Sized (t : Tree) (x : Text) (at n left : ℕ) (r : Read) : Type 0 where
+  pub counts : r .next .0 ≡ n + nodes t
+  pub deep : r .depth ≡ depth t
+  pub later : at < r .end .0
+  pub within : r .end .0 ≤ length x
+  pub more : n < r .next .0
+  pub room : r .next .0 ≤ maxNodes
+  pub shallow : r .depth ≤ left
+
+-- reading on after the value t of a step
+abbrev pub resumes : Stack → Tree → Text → Read → Outcome
+resumes K t x r = resume stringSet limits K t (r .end .0) (drop (r .end .0) x)
+
+-- a whole value, from a state for each stack around: its tree and its rows
+pub record Whole (st : Stack → State) (x : Text) (w w′ : Words) (at n left kf kt u : ℕ) (r : Read) : Type 0 where
   pub tree : Tree
-  pub reading : (K : Stack) → Around K n left → reads (st K) x at ≡ resume stringSet limits K tree q (drop q x)
-  pub counts : m ≡ n + nodes tree
-  pub deep : d ≡ depth tree
+  pub reading : (K : Stack) → Around K n left → reads (st K) x at ≡ resumes K tree x r
   pub rows : (k : Key) → keyFrom k ≡ kf → keyTo k ≡ kt → w′ ≡ sets w (rowWords * n) (rowsOf tree k u n)
-  pub later : at < q
-  pub within : q ≤ length x
-  pub more : n < m
-  pub room : m ≤ maxNodes
-  pub shallow : d ≤ left
+  pub sized : Sized tree x at n left r
 
 abbrev pub Valued : Text → (w w′ : Words) → (at n left kf kt u : ℕ) → Step → Type 0
-Valued x w w′ at n left kf kt u (Next q m d) = Whole (λ K. before (value K)) x w w′ at n left kf kt u (q .0) (m .0) d
+Valued x w w′ at n left kf kt u (Next r) = Whole (λ K. before (value K)) x w w′ at n left kf kt u r
 Valued x w w′ at n left kf kt u (Refused r p) = RefusedBy (λ K. before (value K)) x at n left r (p .0)
 
 -- a string whose opener stands before place `at`
 abbrev pub Quoted : Text → (w w′ : Words) → (at n kf kt u : ℕ) → Step → Type 0
-Quoted x w w′ at n kf kt u (Next q m d) = (o left : ℕ) → at ≡ suc o → Whole (λ K. quoted K o) x w w′ at n left kf kt u (q .0) (m .0) d
+Quoted x w w′ at n kf kt u (Next r) = (o left : ℕ) → at ≡ suc o → Whole (λ K. quoted K o) x w w′ at n left kf kt u r
 Quoted x w w′ at n kf kt u (Refused r p) = (o left : ℕ) → RefusedBy (λ K. quoted K o) x at n left r (p .0)
 
--- the key of a child: an object's, or none
-abbrev pub Labelled : Text → (p kind from to end : ℕ) → Type 0
-Labelled x p kind from to end = (kind ≡ 3 → NamedAt x p from to end) × ((kind ≡ 3 → ⊥) → (from ≡ 0) × (to ≡ 0) × (end ≡ p))
+-- the colon after a key
+abbrev pub Coloned : Text → ℕ → Pass → Type 0
+Coloned x p (Past q) = (getD x p 0 ≡ colon) × (q .0 ≡ suc p)
+Coloned x p (Stopped r q) = (getD x p 0 ≡ colon → ⊥) × (r ≡ faultNumber syntax) × (q .0 ≡ p)
 
--- the colon after it
-pub record Coloned (x : Text) (p kind q : ℕ) : Type 0 where
-  pub past : kind ≡ 3 → (getD x p 0 ≡ colon) × (q ≡ suc p)
-  pub same : (kind ≡ 3 → ⊥) → q ≡ p
+-- an open container with its children so far and the key of the child that comes next
+abbrev pub framed : Kind → (o from to : ℕ) → Trees → Key → Frame
+framed c o from to ts k = record { kind = c; o = o; from = from; to = to; children = ts; next = k }
 
-pub record Colonless (x : Text) (p kind r q : ℕ) : Type 0 where
-  pub object : kind ≡ 3
-  pub other : getD x p 0 ≡ colon → ⊥
-  pub number : r ≡ 4
-  pub there : q ≡ p
+-- a child of a container of kind c, from where it is due: its key, its tree and its rows
+pub record WholeChild (c : Kind) (x : Text) (w w′ : Words) (at n left u : ℕ) (r : Read) : Type 0 where
+  pub label : Key
+  pub tree : Tree
+  pub reading : (K : Stack) (o from to : ℕ) (ts : Trees) → Around (inside K (framed c o from to ts label)) n left
+      → reads (before (child c K (framed c o from to ts unkeyed))) x at ≡ resumes (inside K (framed c o from to ts label)) tree x r
+  pub rows : w′ ≡ sets w (rowWords * n) (rowsOf tree label u n)
+  pub sized : Sized tree x at n left r
 
-abbrev pub Keyed : Text → (p kind : ℕ) → Step → Type 0
-Keyed x p kind (Next q m d) = Coloned x p kind (q .0)
-Keyed x p kind (Refused r q) = Colonless x p kind r (q .0)
+pub record ChildRefused (c : Kind) (x : Text) (at n left r p : ℕ) : Type 0 where
+  pub fault : Fault
+  pub number : faultNumber fault ≡ r
+  pub refuses : (K : Stack) (o from to : ℕ) (ts : Trees) → Around (inside K (framed c o from to ts unkeyed)) n left
+      → reads (before (child c K (framed c o from to ts unkeyed))) x at ≡ refused fault p
+  pub within : p ≤ length x
+
+abbrev pub ChildRead : Kind → Text → (w w′ : Words) → (at n left u : ℕ) → Step → Type 0
+ChildRead c x w w′ at n left u (Next r) = WholeChild c x w w′ at n left u r
+ChildRead c x w w′ at n left u (Refused r p) = ChildRefused c x at n left r (p .0)
 
 -- a whole list and its container's closer: the rows of the children, and the words of the container's row that are known now
-pub record WholeList (x : Text) (w w′ : Words) (at n : ℕ) (c : Kind) (left q m d : ℕ) : Type 0 where
+pub record WholeList (x : Text) (w w′ : Words) (at n : ℕ) (c : Kind) (left : ℕ) (r : Read) : Type 0 where
   pub children : Trees
-  pub reading : (K : Stack) (o from to : ℕ) → Around K n (suc left) → reads (begun K (fresh c o from to)) x at ≡ resume stringSet limits K (container c o from to q children) q (drop q x)
-  pub counts : m ≡ suc n + nodesAll children
-  pub deep : d ≡ suc (depthAll children)
-  pub rows : w′ ≡ sets (sets w (rowWords * suc n) (rowsAll children (suc n) (suc n))) (rowWords * n + 6) (count children ∷ m ∷ [])
-  pub later : at < q
-  pub within : q ≤ length x
-  pub room : m ≤ maxNodes
-  pub shallow : d ≤ suc left
+  pub reading : (K : Stack) (o from to : ℕ) → Around K n (suc left)
+      → reads (begun K (fresh c o from to)) x at ≡ resumes K (container c o from to (r .end .0) children) x r
+  pub rows : w′ ≡ sets (sets w (rowWords * suc n) (rowsAll children (suc n) (suc n))) (rowWords * n + 6) (count children ∷ r .next .0 ∷ [])
+  pub sized : (o from to q : ℕ) → Sized (container c o from to q children) x at n (suc left) r
 
 abbrev pub Listed : Text → (w w′ : Words) → (at n kind left : ℕ) → Step → Type 0
-Listed x w w′ at n kind left (Next q m d) = WholeList x w w′ at n (kindOf kind) left (q .0) (m .0) d
+Listed x w w′ at n kind left (Next r) = WholeList x w w′ at n (kindOf kind) left r
 Listed x w w′ at n kind left (Refused r p) = (o from to : ℕ) → RefusedBy (λ K. begun K (fresh (kindOf kind) o from to)) x at n (suc left) r (p .0)

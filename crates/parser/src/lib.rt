@@ -18,10 +18,16 @@ pub struct Place(pub usize);
 // A node's number.
 pub struct Node(pub usize);
 
-// What a reading step answers: where reading goes on, the number of the next node and the depth of what was read; or the
-// refusal's number and its place.
+// What was read: where reading goes on, the number of the next node and the depth.
+pub(crate) struct Read {
+    pub end: Place,
+    pub next: Node,
+    pub depth: usize,
+}
+
+// What a reading step answers: what it read, or the refusal's number and its place.
 pub(crate) enum Step {
-    Next(Place, Node, usize),
+    Next(Read),
     Refused(u32, Place),
 }
 
@@ -148,23 +154,24 @@ fn answer_of(step: Step) -> Answer
     ensures { λ r. ⌜ told r ≡ answerOf step ⌝ }
 {
     match step {
-        Step::Next(_, node, depth) => accepted(node, depth),
+        Step::Next(read) => accepted(read),
         Step::Refused(refusal, place) => refused(refusal, place),
     }
 }
 
-// The answer about a tree of so many nodes and so deep.
-fn accepted(nodes: Node, depth: usize) -> Answer
-    requires { ⌜ (nodes .0 ≤ maxNodes) × (depth ≤ maxDepth) ⌝ }
-    ensures { λ r. ⌜ told r ≡ acceptedWith (nodes .0) depth ⌝ }
+// The answer about the tree that was read.
+fn accepted(read: Read) -> Answer
+    requires { ⌜ (read .next .0 ≤ maxNodes) × (read .depth ≤ maxDepth) ⌝ }
+    ensures { λ r. ⌜ told r ≡ acceptedWith read ⌝ }
 {
+    let nodes = read.next;
     Answer {
         refusal: ACCEPTED,
         name: 0,
         kind: 0,
         place: 0,
         nodes: nodes.0 as u32,
-        depth: depth as u32,
+        depth: read.depth as u32,
     }
 }
 

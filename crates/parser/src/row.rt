@@ -4,6 +4,7 @@ ghost use Prim.Native.Nat.{suc, _≤_, _<_, _+_, _*_, _-_, _^_};
 ghost use mathlib.Core.List.{[], _∷_, _++_};
 ghost use lib.ListN.{length, take, replicate};
 ghost use lib.Seq.{sets};
+ghost use Rattle.cel_text.specs.Reading.{maxNodes};
 ghost use Rattle.cel_text.specs.Table.{rowWords, wordsAt, rowAt};
 ghost use Rattle.parser.specs.Rows.{rowTold};
 use crate::Node;
@@ -93,6 +94,14 @@ pub(crate) fn close_row(table: &mut [u32], node: Node, children: usize, past: No
     let at = ROW_WORDS * node.0;
     table[at + 6] = children as u32;
     table[at + 7] = past.0 as u32;
+}
+
+// The word of a parent with this number.
+pub(crate) fn under(node: Node) -> Parent
+    requires { ⌜ node .0 < maxNodes ⌝ }
+    ensures { λ r. ⌜ r .0 ≡ suc (node .0) ⌝ }
+{
+    Parent((node.0 + 1) as u32)
 }
 
 // Sets every word from `from` on to 0.

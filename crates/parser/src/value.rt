@@ -2,18 +2,19 @@
 ghost use mathlib.Core.Path.{_≡_};
 ghost use Prim.Native.Nat.{_≤_, _<_, _+_, max};
 ghost use lib.ListN.{length};
-ghost use Rattle.cel_text.specs.Tree.{closer};
+ghost use Rattle.cel_text.specs.Tree.{object, closer};
 ghost use Rattle.cel_text.specs.Reading.{maxNodes};
 ghost use Rattle.cel_text.specs.Table.{nodeWords};
 ghost use Rattle.cel_text.specs.Answer.{maxText};
 ghost use Rattle.parser.specs.Kinds.{kindOf, openerKind};
-ghost use Rattle.parser.specs.Steps.{Headed, Opens, Labelled, Keyed, Ready, Valued, Quoted, Listed};
+ghost use Rattle.parser.specs.Steps.{Headed, Opens, Coloned, Ready, Valued, Quoted, ChildRead, Listed};
 use crate::ARRAY;
 use crate::FUNCTION;
 use crate::MAX_NODES;
 use crate::Node;
 use crate::OBJECT;
 use crate::Place;
+use crate::Read;
 use crate::STRING;
 use crate::SYNTAX;
 use crate::Step;
@@ -23,7 +24,12 @@ use crate::row;
 use crate::row::Parent;
 use crate::scan;
 use crate::scan::Class;
-use crate::scan::Name;
+
+// What a step over one byte answers: the place after it, or the refusal's number and its place.
+pub(crate) enum Pass {
+    Past(Place),
+    Stopped(u32, Place),
+}
 
 // What a value begins with: its kind, 0 where nothing opens; the ends of its name; its opener's place.
 pub(crate) struct Head {
@@ -94,26 +100,22 @@ fn opening(text: &[u8], at: Place) -> Head
 }
 
 // The limits, and the place after the opener. Of two refusals at one place 5 comes before 6.
-fn enter(kind: u32, at: Place, node: Node, left: usize) -> Step
+fn enter(kind: u32, at: Place, node: Node, left: usize) -> Pass
     requires { ⌜ (at .0 ≤ maxText) × (node .0 ≤ maxNodes) ⌝ }
     ensures { λ r. ⌜ Opens kind (at .0) (node .0) left r ⌝ }
 {
     if kind == 0 {
-        return Step::Refused(SYNTAX, at);
+        return Pass::Stopped(SYNTAX, at);
     }
-    if kind == STRING {
-        if node.0 == MAX_NODES {
-            return Step::Refused(TOO_MANY, at);
+    if kind != STRING {
+        if left == 0 {
+            return Pass::Stopped(TOO_DEEP, at);
         }
-        return Step::Next(Place(at.0 + 1), Node(node.0 + 1), 0);
-    }
-    if left == 0 {
-        return Step::Refused(TOO_DEEP, at);
     }
     if node.0 == MAX_NODES {
-        return Step::Refused(TOO_MANY, at);
+        return Pass::Stopped(TOO_MANY, at);
     }
-    Step::Next(Place(at.0 + 1), Node(node.0 + 1), 1)
+    Pass::Past(Place(at.0 + 1))
 }
 
 // A value, with the key and the parent that its row shows.
@@ -133,9 +135,9 @@ pub(crate) fn cel_value(
 {
     let head = opening(text, at);
     let kind = head.kind;
-    let step = enter(kind, head.at, node, left);
-    let Step::Next(inner, _, _) = step else {
-        return step;
+    let inner = match enter(kind, head.at, node, left) {
+        Pass::Past(inner) => inner,
+        Pass::Stopped(refusal, place) => return Step::Refused(refusal, place),
     };
     if kind == STRING {
         return string(text, table, inner, node, keyfrom, keyto, parent);
@@ -172,38 +174,64 @@ fn string(
     if scan::peek(text, end) != b'"' {
         return Step::Refused(SYNTAX, end);
     }
-    let past = Node(node.0 + 1);
+    let next = Node(node.0 + 1);
     row::open_row(table, node, STRING, at, to, keyfrom, keyto, parent);
-    row::close_row(table, node, 0, past);
-    Step::Next(Place(end.0 + 1), past, 0)
+    row::close_row(table, node, 0, next);
+    Step::Next(Read {
+        end: Place(end.0 + 1),
+        next,
+        depth: 0,
+    })
 }
 
-// The key of the child that is due here. Only an object's children have one.
-fn label(text: &[u8], at: Place, kind: u32) -> Name
-    ensures { λ r. ⌜ Labelled (now (text .entry)) (at .0) kind (r .from .0) (r .to .0) (r .end .0) ⌝ }
-{
-    if kind == OBJECT {
-        return scan::trimmed_ident(text, at);
-    }
-    Name {
-        from: Place(0),
-        to: Place(0),
-        end: at,
-    }
-}
-
-// The place where the child's value is due: after the colon, in an object.
-fn colon(text: &[u8], at: Place, kind: u32, node: Node) -> Step
+// The colon after an entry's key.
+fn colon(text: &[u8], at: Place) -> Pass
     requires { ⌜ at .0 ≤ length (now text) ⌝ }
-    ensures { λ r. ⌜ Keyed (now (text .entry)) (at .0) kind r ⌝ }
+    ensures { λ r. ⌜ Coloned (now (text .entry)) (at .0) r ⌝ }
+{
+    if scan::peek(text, at) != b':' {
+        return Pass::Stopped(SYNTAX, at);
+    }
+    Pass::Past(Place(at.0 + 1))
+}
+
+// An entry of an object: its key, the colon and its value.
+fn key_value(
+    text: &[u8],
+    table: &mut [u32],
+    at: Place,
+    node: Node,
+    left: usize,
+    parent: Parent,
+) -> Step
+    requires { ⌜ Ready (now text) (now table) (at .0) (node .0) left ⌝ }
+    ensures { λ r. ⌜ ChildRead object (now (text .entry)) (now (table .entry)) (now (table .exit)) (at .0) (node .0) left (parent .0) r ⌝ }
+{
+    let key = scan::trimmed_ident(text, at);
+    let start = match colon(text, key.end) {
+        Pass::Past(start) => start,
+        Pass::Stopped(refusal, place) => return Step::Refused(refusal, place),
+    };
+    cel_value(text, table, start, node, left, key.from, key.to, parent)
+}
+
+// A child of a container of this kind: an entry in an object, a value elsewhere.
+fn child(
+    text: &[u8],
+    table: &mut [u32],
+    at: Place,
+    node: Node,
+    kind: u32,
+    left: usize,
+    parent: Parent,
+) -> Step
+    requires { ⌜ Ready (now text) (now table) (at .0) (node .0) left ⌝ }
+    ensures { λ r. ⌜ ChildRead (kindOf kind) (now (text .entry)) (now (table .entry)) (now (table .exit)) (at .0) (node .0) left (parent .0) r ⌝ }
 {
     if kind == OBJECT {
-        if scan::peek(text, at) != b':' {
-            return Step::Refused(SYNTAX, at);
-        }
-        return Step::Next(Place(at.0 + 1), node, 0);
+        return key_value(text, table, at, node, left, parent);
     }
-    Step::Next(at, node, 0)
+    cel_value(text, table, at, node, left, Place(0), Place(0), parent)
 }
 
 fn deeper(a: usize, b: usize) -> usize
@@ -223,29 +251,32 @@ fn list(text: &[u8], table: &mut [u32], at: Place, node: Node, kind: u32, left: 
     let mut next = Node(node.0 + 1);
     if scan::peek(text, from) == close {
         row::close_row(table, node, 0, next);
-        return Step::Next(Place(from.0 + 1), next, 1);
+        return Step::Next(Read {
+            end: Place(from.0 + 1),
+            next,
+            depth: 1,
+        });
     }
-    let parent = Parent((node.0 + 1) as u32);
+    let parent = row::under(node);
     let mut count = 0;
     let mut depth = 0;
     loop {
-        let key = label(text, from, kind);
-        let colon = colon(text, key.end, kind, next);
-        let Step::Next(start, _, _) = colon else {
-            return colon;
-        };
-        let child = cel_value(text, table, start, next, left, key.from, key.to, parent);
-        let Step::Next(end, after, deep) = child else {
-            return child;
+        let step = child(text, table, from, next, kind, left, parent);
+        let Step::Next(read) = step else {
+            return step;
         };
         count += 1;
-        next = after;
-        depth = deeper(depth, deep);
-        let stop = scan::run_of(text, end, Class::Blank);
+        next = read.next;
+        depth = deeper(depth, read.depth);
+        let stop = scan::run_of(text, read.end, Class::Blank);
         let b = scan::peek(text, stop);
         if b == close {
             row::close_row(table, node, count, next);
-            return Step::Next(Place(stop.0 + 1), next, depth + 1);
+            return Step::Next(Read {
+                end: Place(stop.0 + 1),
+                next,
+                depth: depth + 1,
+            });
         }
         if b != b',' {
             return Step::Refused(SYNTAX, stop);

@@ -1,28 +1,31 @@
 -- `mapping::validate_arguments` meets its contract: the object, then which of two keys is there, and what the second holds. Assumes nothing.
-use mathlib.Core.Path.{_≡_}
 use native.Mathlib.Omega.{arith}
-use Rattle.cel_text.specs.Tree.{object}
-use Rattle.cel_policy.specs.Mapping.{good, typed}
-use Rattle.ast_mapping.specs.View.{nodeAt, typedAt}
-use Rattle.ast_mapping.proofs.View.{few}
+use Rattle.ast_mapping.specs.Steps.{Checked}
+use Rattle.ast_mapping.specs.declared.mapping.Check.the-variants.{Right}
 use Rattle.ast_mapping.proofs.Parts.{Chosen, chosen, arguments-untyped, arguments-skip, arguments-refused, arguments-certified}
 use Rattle.ast_mapping.proofs.mapping.validate_arguments.Statement.{statement}
 use Rattle.ast_mapping.proofs.mapping.validate_arguments.Tie as tie
 
-right : (c : tie.After-enum-told) → good (typedAt (c .before .before .before .before .before .args .table .now) (c .before .before .before .before .before .args .text .now) (c .before .before .before .before .before .args .arguments .0)) ≡ typed object 2 (nodeAt (c .before .before .before .before .before .args .table .now) (c .before .before .before .before .before .args .text .now) (c .before .before .before .before .before .args .arguments .0))
-right c = rw (c .enum-told .given .1) at (c .before .before .validate-object .ensures)
+right : (c : tie.After-enum-told) → let s = c .before .before .before .before .before in Checked (s .args .table .now) (s .args .text .now) (s .args .arguments .0) 2 Right
+right c = rw (c .enum-told .given .1) at (c .before .before .validate-node .ensures)
 
-which : (c : tie.After-exactly-one) → Chosen (c .before .before .before .before .before .before .before .before .args .table .now) (c .before .before .before .before .before .before .before .before .args .text .now) (c .before .before .before .before .before .before .before .before .args .arguments .0) 11 12 3 4 (c .exactly-one .result)
-which c = chosen (c .before .before .before .before .before .before .before .before .args .table .now) (c .before .before .before .before .before .before .before .before .args .text .now) (c .before .before .before .before .before .before .before .before .args .arguments .0) 11 12 (c .before .before .lookup .ensures) (c .before .lookup2 .ensures) (c .exactly-one .result) (c .exactly-one .ensures)
+which : (c : tie.After-exactly-one)
+    → let s = c .before .before .before .before .before .before .before .before in Chosen (s .args .table .now) (s .args .text .now) (s .args .arguments .0) 11 12 3 4 (c .exactly-one .result)
+which c =
+    let s = c .before .before .before .before .before .before .before .before in
+    chosen (s .args .table .now) (s .args .text .now) (s .args .arguments .0) 11 12 (s .pre) (c .before .before .lookup .ensures) (c .before .lookup2 .ensures)
+    (c .exactly-one .result) (c .exactly-one .ensures)
 
-validate-object-requires : tie.Need-validate-object-requires
-validate-object-requires c κs = c .before .before .pre
+validate-node-requires : tie.Need-validate-node-requires
+validate-node-requires c κs = c .before .before .pre
 
 enum-known-check : tie.Need-enum-known-check
 enum-known-check c = c .match .keys1
 
 returns : tie.Need-returns
-returns c = arguments-untyped (c .before .before .before .before .before .before .args .table .now) (c .before .before .before .before .before .before .args .text .now) (c .before .before .before .before .before .before .args .arguments .0) (rw (c .before .check .given .1) at (c .before .before .before .validate-object .ensures))
+returns c =
+    let s = c .before .before .before .before .before .before in
+    arguments-untyped (s .args .table .now) (s .args .text .now) (s .args .arguments .0) (rw (c .before .check .given .1) at (c .before .before .before .validate-node .ensures))
 
 enum-told : tie.Need-enum-told
 enum-told c = c .match .keys2
@@ -34,7 +37,7 @@ lookup-requires-2 : tie.Need-lookup-requires-2
 lookup-requires-2 c κs = c .before .before .before .before .before .before .pre
 
 exactly-one-requires : tie.Need-exactly-one-requires
-exactly-one-requires c κs = omega (arith, few (c .before .before .before .before .before .before .before .args .table .now) (c .before .before .before .before .before .before .before .args .text .now) (c .before .before .before .before .before .before .before .args .arguments .0) (c .before .before .before .before .before .before .before .pre))
+exactly-one-requires c κs = omega arith
 
 enum-told-2 : tie.Need-enum-told-2
 enum-told-2 c = c .match2 .keys1
@@ -49,13 +52,36 @@ enum-known-only-2 : tie.Need-enum-known-only-2
 enum-known-only-2 c = c .match2 .keys3
 
 returns-2 : tie.Need-returns-2
-returns-2 c = arguments-skip (c .before .before .before .before .before .before .before .before .before .before .args .table .now) (c .before .before .before .before .before .before .before .before .before .before .args .text .now) (c .before .before .before .before .before .before .before .before .before .before .args .arguments .0) (right (c .before .before .before .before .before)) (rw (c .enum-told2 .given .1) at (which (c .before .before)))
+returns-2 c =
+    let s = c .before .before .before .before .before .before .before .before .before .before in
+    arguments-skip (s .args .table .now) (s .args .text .now) (s .args .arguments .0) (right (c .before .before .before .before .before)) (rw (c .enum-told2 .given .1) at (which (c .before .before)))
 
 returns-3 : tie.Need-returns-3
-returns-3 c = arguments-certified (c .before .before .before .before .before .before .before .before .before .before .before .before .args .table .now) (c .before .before .before .before .before .before .before .before .before .before .before .before .args .text .now) (c .before .before .before .before .before .before .before .before .before .before .before .before .args .arguments .0) (right (c .before .before .before .before .before .before .before)) (rw (c .before .before .only .given .1) at (which (c .before .before .before .before))) (c .validate-certification .ensures)
+returns-3 c =
+    let s = c .before .before .before .before .before .before .before .before .before .before .before .before in
+    arguments-certified (s .args .table .now) (s .args .text .now) (s .args .arguments .0) (right (c .before .before .before .before .before .before .before)) (rw (c .before .before .only .given .1) at (which (c .before .before .before .before)))
+    (c .validate-certification .ensures)
 
 returns-4 : tie.Need-returns-4
-returns-4 c = arguments-refused (c .before .before .before .before .before .before .before .before .before .before .before .args .table .now) (c .before .before .before .before .before .before .before .before .before .before .before .args .text .now) (c .before .before .before .before .before .before .before .before .before .before .before .args .arguments .0) (right (c .before .before .before .before .before .before)) (rw (c .before .only2 .given .1) at (which (c .before .before .before)))
+returns-4 c =
+    let s = c .before .before .before .before .before .before .before .before .before .before .before in
+    arguments-refused (s .args .table .now) (s .args .text .now) (s .args .arguments .0) (right (c .before .before .before .before .before .before)) (rw (c .before .only2 .given .1) at (which (c .before .before .before)))
 
 pub validate-arguments-spec : {M : Type 1} → statement M
-validate-arguments-spec = tie.close (tie.spec validate-object-requires enum-known-check returns enum-told lookup-requires lookup-requires-2 exactly-one-requires enum-told-2 enum-known-only validate-certification-requires enum-known-only-2 returns-2 returns-3 returns-4)
+validate-arguments-spec =
+    tie.close
+    (tie.spec
+    validate-node-requires
+    enum-known-check
+    returns
+    enum-told
+    lookup-requires
+    lookup-requires-2
+    exactly-one-requires
+    enum-told-2
+    enum-known-only
+    validate-certification-requires
+    enum-known-only-2
+    returns-2
+    returns-3
+    returns-4)

@@ -3,14 +3,16 @@ use Rattle.ast_mapping.proofs.Parts.{certification-untyped, certificati
 use Rattle.ast_mapping.proofs.mapping.validate_certification.Statement.{statement}
 use Rattle.ast_mapping.proofs.mapping.validate_certification.Tie as tie
 
-validate-object-requires : tie.Need-validate-object-requires
-validate-object-requires c κs = c .before .before .pre
+validate-node-requires : tie.Need-validate-node-requires
+validate-node-requires c κs = c .before .before .pre
 
 enum-known-check : tie.Need-enum-known-check
 enum-known-check c = c .match .keys1
 
 returns : tie.Need-returns
-returns c = certification-untyped (c .before .before .before .before .before .before .args .table .now) (c .before .before .before .before .before .before .args .text .now) (c .before .before .before .before .before .before .args .certification .0) (rw (c .before .check .given .1) at (c .before .before .before .validate-object .ensures))
+returns c =
+    let s = c .before .before .before .before .before .before in
+    certification-untyped (s .args .table .now) (s .args .text .now) (s .args .certification .0) (rw (c .before .check .given .1) at (c .before .before .before .validate-node .ensures))
 
 enum-told : tie.Need-enum-told
 enum-told c = c .match .keys2
@@ -25,7 +27,21 @@ certified-requires : tie.Need-certified-requires
 certified-requires c κs = tt
 
 returns-2 : tie.Need-returns-2
-returns-2 c = rw (c .certified .ensures) (certification-parts (c .before .before .before .before .before .before .before .before .args .table .now) (c .before .before .before .before .before .before .before .before .args .text .now) (c .before .before .before .before .before .before .before .before .args .certification .0) (rw (c .before .before .before .enum-told .given .1) at (c .before .before .before .before .before .validate-object .ensures)) (c .before .before .validate-request-certification .ensures) (c .before .validate-response-certification .ensures))
+returns-2 c =
+    let s = c .before .before .before .before .before .before .before .before in
+    rw (c .certified .ensures)
+    (certification-parts (s .args .table .now) (s .args .text .now) (s .args .certification .0) (rw (c .before .before .before .enum-told .given .1) at (c .before .before .before .before .before .validate-node .ensures))
+    (c .before .before .validate-request-certification .ensures) (c .before .validate-response-certification .ensures))
 
 pub validate-certification-spec : {M : Type 1} → statement M
-validate-certification-spec = tie.close (tie.spec validate-object-requires enum-known-check returns enum-told validate-request-certification-requires validate-response-certification-requires certified-requires returns-2)
+validate-certification-spec =
+    tie.close
+    (tie.spec
+    validate-node-requires
+    enum-known-check
+    returns
+    enum-told
+    validate-request-certification-requires
+    validate-response-certification-requires
+    certified-requires
+    returns-2)

@@ -1,59 +1,89 @@
 -- `mapping::validate_node` meets its contract: the row's kind is tested first, then the name that its ends give. Assumes nothing.
 use mathlib.Core.Path.{_≡_, refl, sym, ap, _∙_}
-use lib.Dec.{lit<}
-use Rattle.ast_mapping.proofs.Counts.{le-as}
 use lib.Seq.{slice}
+use Rattle.cel_text.specs.Table.{word}
 use Rattle.cel_policy.specs.Names.{same, spelling}
 use Rattle.cel_policy.specs.Mapping.{bad, typed}
-use Rattle.parser.specs.Kinds.{kindOf}
-use Rattle.ast_mapping.specs.View.{word, nodeAt, typedAt}
-use Rattle.parser.proofs.Runs.{part-slice}
-use Rattle.ast_mapping.proofs.View.{room, few}
+use Rattle.ast_mapping.specs.View.{nodeAt, typedAt}
+use Rattle.ast_mapping.specs.Steps.{expectedKind}
+use Rattle.ast_mapping.proofs.Counts.{le-as}
+use Rattle.ast_mapping.proofs.View.{RowRead, row-read, room, few}
 use Rattle.ast_mapping.proofs.Steps.{NameAt, wrong-kind, right-kind}
+use Rattle.ast_mapping.proofs.Parts.{small-of}
+use borrow.Author.Needs.{needs}
 use Rattle.ast_mapping.proofs.mapping.validate_node.Statement.{statement}
 use Rattle.ast_mapping.proofs.mapping.validate_node.Tie as tie
 
-right : (c : tie.Else1) → NameAt (c .before .before .before .before .args .table .now) (c .before .before .before .before .args .text .now) (c .before .before .before .before .args .node .0) (c .before .before .before .before .args .name) (typedAt (c .before .before .before .before .args .table .now) (c .before .before .before .before .args .text .now) (c .before .before .before .before .args .node .0)) (typed (kindOf (c .before .before .before .before .args .kind)) (c .before .before .before .before .args .name) (nodeAt (c .before .before .before .before .args .table .now) (c .before .before .before .before .args .text .now) (c .before .before .before .before .args .node .0)))
-right c = right-kind (c .before .before .before .before .args .table .now) (c .before .before .before .before .args .text .now) (kindOf (c .before .before .before .before .args .kind)) (c .before .before .before .before .args .name) (c .before .before .before .before .args .node .0) (c .before .before .before .before .args .kind) (c .before .before .before .before .pre .0) (c .before .before .before .before .pre .1) (sym (c .before .word .ensures) ∙ c .if1 .left)
+read : (c : tie.After-read-row) → let s = c .before .before .before in RowRead (s .args .table .now) (s .args .node .0) (c .read-row .result)
+read c = let s = c .before .before .before in row-read (c .read-row .ensures) (room (s .args .table .now) (s .args .text .now) (s .args .node .0) (s .pre))
 
-spelled : (c : tie.After-is-name) → c .is-name .result ≡ same (slice (word (c .before .before .before .before .before .before .before .before .args .table .now) (c .before .before .before .before .before .before .before .before .args .node .0) 1) (word (c .before .before .before .before .before .before .before .before .args .table .now) (c .before .before .before .before .before .before .before .before .args .node .0) 2) (c .before .before .before .before .before .before .before .before .args .text .now)) (spelling (c .before .before .before .before .before .before .before .before .args .name))
-spelled c = rw (part-slice, c .before .before .before .word2 .ensures, c .before .before .word3 .ensures) at (c .is-name .ensures)
+right : (c : tie.Else1)
+    → let s = c .before .before .before .before .before .before in
+    let w = s .args .table .now in
+    let x = s .args .text .now in
+    NameAt w x (s .args .node .0) (s .args .name) (typedAt w x (s .args .node .0)) (typed (expectedKind (s .args .name)) (s .args .name) (nodeAt w x (s .args .node .0)))
+right c =
+    let s = c .before .before .before .before .before .before in
+    right-kind (s .args .table .now) (s .args .text .now) (expectedKind (s .args .name)) (s .args .name) (s .args .node .0) (s .pre)
+    (sym (read (c .before .before .before) .kind) ∙ c .if1 .left ∙ c .before .before .expected-kind .ensures)
 
-word-requires : tie.Need-word-requires
-word-requires c κs = (room (c .before .before .args .table .now) (c .before .before .args .text .now) (c .before .before .args .node .0) (c .before .before .pre .0), lit< tt)
+spelled : (c : tie.After-is-name-at)
+    → let s = c .before .before .before .before .before .before .before in
+    let w = s .args .table .now in
+    c .is-name-at .result ≡ same (slice (word w (s .args .node .0) 1) (word w (s .args .node .0) 2) (s .args .text .now)) (spelling (s .args .name))
+spelled c = let r = read (c .before .before .before .before) in rw (r .from, r .to) at (c .is-name-at .ensures)
+
+read-row-requires : tie.Need-read-row-requires
+read-row-requires c κs = tt
+
+expected-kind-requires : tie.Need-expected-kind-requires
+expected-kind-requires c κs = tt
 
 refused-requires : tie.Need-refused-requires
-refused-requires c κs = few (c .before .before .before .before .args .table .now) (c .before .before .before .before .args .text .now) (c .before .before .before .before .args .node .0) (c .before .before .before .before .pre .0)
+refused-requires c κs = tt
 
 returns : tie.Need-returns
-returns c = ap bad (c .refused .ensures) ∙ wrong-kind (c .before .before .before .before .before .args .table .now) (c .before .before .before .before .before .args .text .now) (kindOf (c .before .before .before .before .before .args .kind)) (c .before .before .before .before .before .args .name) (c .before .before .before .before .before .args .node .0) (c .before .before .before .before .before .args .kind) (c .before .before .before .before .before .pre .0) (c .before .before .before .before .before .pre .1) (λ e. c .before .if1 .taken (c .before .before .word .ensures ∙ e))
+returns c =
+    let s = c .before .before .before .before .before .before .before in
+    let w = s .args .table .now in
+    let x = s .args .text .now in
+    let n = s .args .node .0 in
+    record {
+      is =
+          ap bad (c .refused .ensures)
+          ∙ wrong-kind w x (expectedKind (s .args .name)) (s .args .name) n (s .pre)
+          (λ e. c .before .if1 .taken (read (c .before .before .before .before) .kind ∙ e ∙ sym (c .before .before .before .expected-kind .ensures)));
+      inside = small-of (c .refused .ensures) (few w x n (s .pre));
+    }
 
-word-requires-2 : tie.Need-word-requires-2
-word-requires-2 c κs = (room (c .before .before .before .before .args .table .now) (c .before .before .before .before .args .text .now) (c .before .before .before .before .args .node .0) (c .before .before .before .before .pre .0), lit< tt)
-
-word-requires-3 : tie.Need-word-requires-3
-word-requires-3 c κs = (room (c .before .before .before .before .before .args .table .now) (c .before .before .before .before .before .args .text .now) (c .before .before .before .before .before .args .node .0) (c .before .before .before .before .before .pre .0), lit< tt)
-
-sub-is-name : tie.Need-sub-is-name
-sub-is-name c = le-as (c .before .word2 .ensures) (c .word3 .ensures) (right (c .before .before) .ordered)
-
-part-is-name-start : tie.Need-part-is-name-start
-part-is-name-start c = le-as (c .before .word2 .ensures) (c .word3 .ensures) (right (c .before .before) .ordered)
-
-part-is-name-end : tie.Need-part-is-name-end
-part-is-name-end c = le-as (c .word3 .ensures) refl (right (c .before .before) .inside)
-
-is-name-requires : tie.Need-is-name-requires
-is-name-requires c κs = tt
+is-name-at-requires : tie.Need-is-name-at-requires
+is-name-at-requires c κs =
+    let r = read (c .before .before .before) in
+    (le-as (r .from) (r .to) (right c .ordered), le-as (r .to) refl (right c .inside))
 
 returns-2 : tie.Need-returns-2
-returns-2 c = rw (sym (spelled (c .before)), c .if2 .taken) at (right (c .before .before .before .before .before) .decides)
+returns-2 c = record { is = rw (sym (spelled (c .before)), c .if2 .taken) at (right (c .before .before) .decides); inside = tt }
 
 refused-requires-2 : tie.Need-refused-requires-2
-refused-requires-2 c κs = few (c .before .before .before .before .before .before .before .before .before .args .table .now) (c .before .before .before .before .before .before .before .before .before .args .text .now) (c .before .before .before .before .before .before .before .before .before .args .node .0) (c .before .before .before .before .before .before .before .before .before .pre .0)
+refused-requires-2 c κs = tt
 
 returns-3 : tie.Need-returns-3
-returns-3 c = ap bad (c .refused2 .ensures) ∙ rw (sym (spelled (c .before .before)), c .before .if2 .left) at (right (c .before .before .before .before .before .before) .decides)
+returns-3 c =
+    let s = c .before .before .before .before .before .before .before .before .before in
+    record {
+      is = ap bad (c .refused2 .ensures) ∙ rw (sym (spelled (c .before .before)), c .before .if2 .left) at (right (c .before .before .before) .decides);
+      inside = small-of (c .refused2 .ensures) (few (s .args .table .now) (s .args .text .now) (s .args .node .0) (s .pre));
+    }
 
 pub validate-node-spec : {M : Type 1} → statement M
-validate-node-spec = tie.close (tie.spec word-requires refused-requires returns word-requires-2 word-requires-3 sub-is-name part-is-name-start part-is-name-end is-name-requires returns-2 refused-requires-2 returns-3)
+validate-node-spec =
+    tie.close
+    (tie.spec
+    read-row-requires
+    expected-kind-requires
+    refused-requires
+    returns
+    is-name-at-requires
+    returns-2
+    refused-requires-2
+    returns-3)

@@ -1,68 +1,121 @@
--- `mapping::validate_string_array` meets its contract: the elements passed are strings, so their numbers follow one another. Assumes nothing.
-use mathlib.Core.Path.{_≡_, refl, sym, ap, _∙_}
-use Prim.Native.Nat.{ℕ, suc, _-_, _+_, _≤_, _<_}
-use native.Mathlib.Nat.{le-refl}
+-- `mapping::validate_string_array` meets its contract: every element that was passed is a string's row. Assumes nothing.
+use mathlib.Core.Path.{_≡_, sym, ap, _∙_}
+use Prim.Native.Nat.{ℕ, _-_, _+_, _≤_, _<_}
 use native.Mathlib.Numerals.{add-one-le}
-use lib.Dec.{lit<}
-use mir.Facts.{fits-lit}
-use Rattle.ast_mapping.proofs.Counts.{lt-as, end-as, turn-first, turn-past, turn-later, none-between, fits-node}
+use native.Mathlib.Nat.{le-refl}
 use borrow.Author.Count.{falls, below-more}
-use Rattle.cel_policy.specs.Mapping.{bad}
-use Rattle.ast_mapping.specs.View.{word, Held}
-use Rattle.ast_mapping.proofs.Lists.{tabled-row, tabled-small, wrong-array, all-strings, no-string-at}
+use Rattle.cel_text.specs.Tree.{Kind, array}
+use Rattle.cel_text.specs.Reading.{maxNodes}
+use Rattle.cel_text.specs.Table.{stringKind, kindNumber, word}
+use Rattle.cel_policy.specs.Mapping.{bad, unexpectedType}
+use Rattle.ast_mapping.proofs.Counts.{lt-as, end-as, turn-first, turn-past, turn-later, none-between, fits-node}
+use Rattle.ast_mapping.proofs.View.{RowRead, row-read}
+use Rattle.ast_mapping.proofs.Lists.{tabled-row, tabled-small, wrong-array, no-string-at, all-strings}
+use Rattle.ast_mapping.proofs.Parts.{small-of}
 use Rattle.ast_mapping.proofs.mapping.validate_string_array.Statement.{statement}
 use Rattle.ast_mapping.proofs.mapping.validate_string_array.Tie as tie
 
 abbrev Inv-loop : tie.InvT-loop
-Inv-loop table name end next₀ next = (next₀ ≤ next) × (next ≤ end) × ((i : ℕ) → next₀ ≤ i → i < next → word table i 0 ≡ 1)
+Inv-loop table name end next₀ next = (next₀ .0 ≤ next .0) × (next .0 ≤ end .0) × ((i : ℕ) → next₀ .0 ≤ i → i < next .0 → word table i 0 ≡ stringKind)
 
 abbrev μ-loop : tie.MeasureT-loop
-μ-loop table name end next₀ next = end - next
+μ-loop table name end next₀ next = end .0 - next .0
 
-word-requires : tie.Need-word-requires Inv-loop μ-loop
-word-requires c κs = (tabled-row (c .before .pre) (c .before .args .array .0) (c .before .pre .begun), lit< tt)
+whole : (c : tie.After-read-row Inv-loop μ-loop) → let s = c .before .before in RowRead (s .args .table .now) (s .args .list .0) (c .read-row .result)
+whole c = let s = c .before .before in row-read (c .read-row .ensures) (tabled-row (s .pre .0) (s .args .list .0) (s .pre .0 .begun))
 
-cast-if1 : tie.Need-cast-if1 Inv-loop μ-loop
-cast-if1 c = fits-lit tt
+list-kind : (c : tie.Else1 Inv-loop μ-loop) → let s = c .before .before .before .before .before in word (s .args .table .now) (s .args .list .0) 0 ≡ kindNumber array
+list-kind c = sym (whole (c .before .before .before) .kind) ∙ c .if1 .left ∙ c .before .before .expected-kind .ensures ∙ ap kindNumber (c .before .before .before .before .before .pre .1)
+
+more : (c : tie.Then2 Inv-loop μ-loop) → let s = c .before .before .before .before .before .before .before .before .before .before .before in c .before .before .before .loop .next .0 < word (s .args .table .now) (s .args .list .0) 7
+more c = lt-as (whole (c .before .before .before .before .before .before .before .before .before) .past) (c .if2 .taken)
+
+small : (c : tie.Then2 Inv-loop μ-loop) → c .before .before .before .loop .next .0 < maxNodes
+small c = tabled-small (c .before .before .before .before .before .before .before .before .before .before .before .pre .0) (c .before .before .before .loop .next .0) (more c)
+
+element : (c : tie.After-read-row2 Inv-loop μ-loop) → RowRead (c .before .before .before .before .before .before .before .before .before .before .before .before .args .table .now) (c .before .before .before .before .loop .next .0) (c .read-row2 .result)
+element c = row-read (c .read-row2 .ensures) (tabled-row (c .before .before .before .before .before .before .before .before .before .before .before .before .pre .0) (c .before .before .before .before .loop .next .0) (more (c .before)))
+
+read-row-requires : tie.Need-read-row-requires Inv-loop μ-loop
+read-row-requires c κs = tt
+
+expected-kind-requires : tie.Need-expected-kind-requires Inv-loop μ-loop
+expected-kind-requires c κs = tt
 
 refused-requires : tie.Need-refused-requires Inv-loop μ-loop
-refused-requires c κs = tabled-small (c .before .before .before .pre) (c .before .before .before .args .array .0) (c .before .before .before .pre .begun)
+refused-requires c κs = tt
 
 returns : tie.Need-returns Inv-loop μ-loop
-returns c = (λ x h. ap bad (c .refused .ensures) ∙ wrong-array (c .before .before .before .before .args .table .now) x (c .before .before .before .before .args .name) (c .before .before .before .before .args .array .0) h (λ e. c .before .if1 .taken (c .before .before .word .ensures ∙ e)))
+returns c =
+    let s = c .before .before .before .before .before .before in
+    let w = s .args .table .now in
+    let n = s .args .list .0 in
+    record {
+      is =
+          λ x h.
+          ap bad (c .refused .ensures)
+          ∙ ap (λ (k : Kind). unexpectedType (s .args .name) (kindNumber k) n) (s .pre .1)
+          ∙ wrong-array w x (s .args .name) n h (λ e. c .before .if1 .taken (whole (c .before .before .before .before) .kind ∙ e ∙ sym (c .before .before .before .expected-kind .ensures ∙ ap kindNumber (s .pre .1))));
+      inside = small-of (c .refused .ensures) (tabled-small (s .pre .0) n (s .pre .0 .begun));
+    }
 
-word-requires-2 : tie.Need-word-requires-2 Inv-loop μ-loop
-word-requires-2 c κs = (tabled-row (c .before .before .before .pre) (c .before .before .before .args .array .0) (c .before .before .before .pre .begun), lit< tt)
-
-add-next : tie.Need-add-next Inv-loop μ-loop
-add-next c = fits-node (tabled-small (c .before .before .before .before .before .pre) (c .before .before .before .before .before .args .array .0) (c .before .before .before .before .before .pre .begun))
+add-t11 : tie.Need-add-t11 Inv-loop μ-loop
+add-t11 c = let s = c .before .before .before .before .before .before .before in fits-node (tabled-small (s .pre .0) (s .args .list .0) (s .pre .0 .begun))
 
 loop-holds : tie.Need-loop-holds Inv-loop μ-loop
-loop-holds c = (le-refl (c .before .before .before .before .before .args .array .0 + 1), turn-first (c .before .word2 .ensures) (c .before .before .before .before .before .pre .begun), λ i a b. absurd (none-between a b))
+loop-holds c =
+    let s = c .before .before .before .before .before .before .before in
+    (le-refl (s .args .list .0 + 1), turn-first (whole (c .before .before .before .before .before) .past) (s .pre .0 .begun), λ i a b. absurd (none-between a b))
 
-word-requires-3 : tie.Need-word-requires-3 Inv-loop μ-loop
-word-requires-3 c κs = (tabled-row (c .before .before .before .before .before .before .before .pre) (c .before .loop .next) (lt-as (c .before .before .before .word2 .ensures) (c .loop-test .taken)), lit< tt)
+read-row-requires-2 : tie.Need-read-row-requires-2 Inv-loop μ-loop
+read-row-requires-2 c κs = tt
 
-cast-if2 : tie.Need-cast-if2 Inv-loop μ-loop
-cast-if2 c = fits-lit tt
-
-refused-requires-2 : tie.Need-refused-requires-2 Inv-loop μ-loop
-refused-requires-2 c κs = tabled-small (c .before .before .before .before .before .before .before .before .before .pre) (c .before .before .before .loop .next) (lt-as (c .before .before .before .before .before .word2 .ensures) (c .before .before .loop-test .taken))
+unexpected-type-requires : tie.Need-unexpected-type-requires Inv-loop μ-loop
+unexpected-type-requires c κs = tt
 
 returns-2 : tie.Need-returns-2 Inv-loop μ-loop
-returns-2 c = (λ x h. ap bad (c .refused2 .ensures) ∙ no-string-at (c .before .before .before .before .before .before .before .before .before .before .args .table .now) x (c .before .before .before .before .before .before .before .before .before .before .args .name) (c .before .before .before .before .before .before .before .before .before .before .args .array .0) h (sym (c .before .before .before .before .before .before .before .before .word .ensures) ∙ c .before .before .before .before .before .before .before .if1 .left) (c .before .before .before .before .loop .next) (turn-past (c .before .before .before .before .loop .inv .0)) (λ i a b. c .before .before .before .before .loop .inv .2 i (add-one-le a) b) (lt-as (c .before .before .before .before .before .before .word2 .ensures) (c .before .before .before .loop-test .taken)) (λ e. c .before .if2 .taken (c .before .before .word3 .ensures ∙ e)))
+returns-2 c =
+    let s = c .before .before .before .before .before .before .before .before .before .before .before .before .before .before .before in
+    let l = c .before .before .before .before .before .before .before in
+    record {
+      is =
+          λ x h.
+          ap bad (c .unexpected-type .ensures)
+          ∙ no-string-at (s .args .table .now) x (s .args .name) (s .args .list .0) h (list-kind (l .before .before .before)) (l .loop .next .0)
+          (turn-past (l .loop .inv .0)) (λ i a b. l .loop .inv .2 i (add-one-le a) b) (more (c .before .before .before .before))
+          (λ e. c .before .if3 .taken (element (c .before .before .before) .kind ∙ e));
+      inside = small-of (c .unexpected-type .ensures) (small (c .before .before .before .before));
+    }
 
-add-next-2 : tie.Need-add-next-2 Inv-loop μ-loop
-add-next-2 c = fits-node (tabled-small (c .before .before .before .before .before .before .before .before .before .pre) (c .before .before .before .loop .next) (lt-as (c .before .before .before .before .before .word2 .ensures) (c .before .before .loop-test .taken)))
+add-t14 : tie.Need-add-t14 Inv-loop μ-loop
+add-t14 c = fits-node (small (c .before .before .before .before))
 
 loop-less : tie.Need-loop-less Inv-loop μ-loop
-loop-less c = falls _ _ (c .before .before .loop-test .taken)
+loop-less c = falls _ _ (c .before .before .before .before .if2 .taken)
 
 loop-again : tie.Need-loop-again Inv-loop μ-loop
-loop-again c = (turn-later (c .before .before .before .loop .inv .0), add-one-le (c .before .before .loop-test .taken), λ i a b. below-more (λ (k : ℕ). c .before .before .before .before .before .before .before .before .before .args .array .0 + 1 ≤ k → word (c .before .before .before .before .before .before .before .before .before .args .table .now) k 0 ≡ 1) (c .before .before .before .loop .next) (λ k l f. c .before .before .before .loop .inv .2 k f l) (λ f. sym (c .before .word3 .ensures) ∙ c .if2 .left) i b a)
+loop-again c =
+    let s = c .before .before .before .before .before .before .before .before .before .before .before .before .before .before .before in
+    let l = c .before .before .before .before .before .before .before in (
+      turn-later (l .loop .inv .0),
+      add-one-le (c .before .before .before .before .if2 .taken),
+      λ i a b.
+          below-more (λ (k : ℕ). s .args .list .0 + 1 ≤ k → word (s .args .table .now) k 0 ≡ stringKind) (l .loop .next .0) (λ k d f. l .loop .inv .2 k f d)
+          (λ f. sym (element (c .before .before .before) .kind) ∙ c .before .if3 .left) i b a,
+    )
 
 returns-3 : tie.Need-returns-3 Inv-loop μ-loop
-returns-3 c = (λ x h. all-strings (c .before .before .before .before .before .before .before .args .table .now) x (c .before .before .before .before .before .before .before .args .name) (c .before .before .before .before .before .before .before .args .array .0) h (sym (c .before .before .before .before .before .word .ensures) ∙ c .before .before .before .before .if1 .left) (c .before .loop .next) (turn-past (c .before .loop .inv .0)) (λ i a b. c .before .loop .inv .2 i (add-one-le a) b) (end-as (c .before .loop .inv .1) (c .loop-test .left) (c .before .before .before .word2 .ensures)))
+returns-3 c =
+    let s = c .before .before .before .before .before .before .before .before .before .before .before in
+    let l = c .before .before .before in
+    record {
+      is =
+          λ x h.
+          all-strings (s .args .table .now) x (s .args .name) (s .args .list .0) h (list-kind (l .before .before .before)) (l .loop .next .0)
+          (turn-past (l .loop .inv .0)) (λ i a b. l .loop .inv .2 i (add-one-le a) b)
+          (end-as (l .loop .inv .1) (c .if2 .left) (whole (c .before .before .before .before .before .before .before .before .before) .past));
+      inside = tt;
+    }
 
 pub validate-string-array-spec : {M : Type 1} → statement M
 validate-string-array-spec =
@@ -70,18 +123,16 @@ validate-string-array-spec =
     (tie.spec
     Inv-loop
     μ-loop
-    word-requires
-    cast-if1
+    read-row-requires
+    expected-kind-requires
     refused-requires
     returns
-    word-requires-2
-    add-next
+    add-t11
     loop-holds
-    word-requires-3
-    cast-if2
-    refused-requires-2
+    read-row-requires-2
+    unexpected-type-requires
     returns-2
-    add-next-2
+    add-t14
     loop-less
     loop-again
     returns-3)

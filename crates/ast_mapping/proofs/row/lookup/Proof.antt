@@ -1,88 +1,91 @@
 -- `row::lookup` meets its contract: what was found so far is what the definition finds among the children passed. Assumes nothing.
-use lib.Dec.{lit<}
-use Rattle.ast_mapping.proofs.Counts.{le-as}
-use mathlib.Core.Path.{_≡_, refl, sym, ap, _∙_}
-use Prim.Native.Nat.{ℕ, suc, _-_, _+_, _*_, _≤_, _<_}
-use lib.ListN.{length}
-use native.Mathlib.Omega.{arith}
+use mathlib.Core.Path.{_≡_, refl, sym}
+use Prim.Native.Nat.{_-_, _<_}
 use mathlib.Core.Logic.{⊎-elim}
 use lib.Seq.{slice}
+use Rattle.cel_text.specs.Table.{word}
 use Rattle.cel_policy.specs.Names.{same, spelling}
-use Rattle.ast_mapping.specs.View.{word}
-use Rattle.ast_mapping.specs.Steps.{foundAs, FoundIf}
-use Rattle.parser.proofs.Runs.{part-slice}
-use Rattle.ast_mapping.proofs.View.{Child, past, room, later}
+use Rattle.ast_mapping.proofs.Counts.{le-as, lt-as}
+use Rattle.ast_mapping.proofs.View.{RowRead, row-read, Child, room, later, few}
 use Rattle.ast_mapping.proofs.Walk.{Passed, before-first, none-passed, hit, miss, all-passed, passing}
 use Rattle.ast_mapping.proofs.row.lookup.Statement.{statement}
 use Rattle.ast_mapping.proofs.row.lookup.Tie as tie
+use native.Mathlib.Omega.{arith}
 
 abbrev Inv-loop : tie.InvT-loop
-Inv-loop text table name end next₀ found₀ next found = Passed table text (next₀ - 1) name next found
+Inv-loop text table name end next₀ found₀ next found = Passed table text (next₀ .0 - 1) name (next .0) found
 
 abbrev μ-loop : tie.MeasureT-loop
-μ-loop text table name end next₀ found₀ next found = end - next
+μ-loop text table name end next₀ found₀ next found = end .0 - next .0
 
-passed : (c : tie.At-loop Inv-loop μ-loop) → Passed (c .before .before .before .before .before .args .table .now) (c .before .before .before .before .before .args .text .now) (c .before .before .before .before .before .args .object .0) (c .before .before .before .before .before .args .name) (c .loop .next) (c .loop .found)
-passed c = rw (before-first (c .before .before .before .before .before .args .object .0)) at (c .loop .inv)
+whole : (c : tie.After-read-row Inv-loop μ-loop) → let s = c .before .before .before in RowRead (s .args .table .now) (s .args .object .0) (c .read-row .result)
+whole c = let s = c .before .before .before in row-read (c .read-row .ensures) (room (s .args .table .now) (s .args .text .now) (s .args .object .0) (s .pre))
 
-more : (c : tie.In-loop Inv-loop μ-loop) → c .before .loop .next < word (c .before .before .before .before .before .before .args .table .now) (c .before .before .before .before .before .before .args .object .0) 7
-more c = rw (c .before .before .before .word .ensures) at (c .loop-test .taken)
+passed : (c : tie.At-loop Inv-loop μ-loop)
+    → let s = c .before .before .before .before .before .before in Passed (s .args .table .now) (s .args .text .now) (s .args .object .0) (s .args .name) (c .loop .next .0) (c .loop .found)
+passed c = rw (before-first (c .before .before .before .before .before .before .args .object .0)) at (c .loop .inv)
 
-kid : (c : tie.In-loop Inv-loop μ-loop) → Child (c .before .before .before .before .before .before .args .table .now) (c .before .before .before .before .before .before .args .text .now) (c .before .before .before .before .before .before .args .object .0) (c .before .before .before .before .before .before .pre) (passed (c .before) .before) (c .before .loop .next)
-kid c = passing (c .before .before .before .before .before .before .args .table .now) (c .before .before .before .before .before .before .args .text .now) (c .before .before .before .before .before .before .args .object .0) (c .before .before .before .before .before .before .pre) (c .before .before .before .before .before .before .args .name) (passed (c .before)) (more c)
+more : (c : tie.Then1 Inv-loop μ-loop) → let s = c .before .before .before .before .before .before .before .before .before in c .before .before .before .loop .next .0 < word (s .args .table .now) (s .args .object .0) 7
+more c = lt-as (whole (c .before .before .before .before .before .before) .past) (c .if1 .taken)
 
-kid-room : (c : tie.In-loop Inv-loop μ-loop) → 8 * (c .before .loop .next) + 8 ≤ length (c .before .before .before .before .before .before .args .table .now)
-kid-room c = room (c .before .before .before .before .before .before .args .table .now) (c .before .before .before .before .before .before .args .text .now) (c .before .loop .next) (kid c .is)
+kid : (c : tie.Then1 Inv-loop μ-loop)
+    → let s = c .before .before .before .before .before .before .before .before .before in Child (s .args .table .now) (s .args .text .now) (s .args .object .0) (s .pre) (passed (c .before .before .before) .before) (c .before .before .before .loop .next .0)
+kid c = let s = c .before .before .before .before .before .before .before .before .before in passing (s .args .table .now) (s .args .text .now) (s .args .object .0) (s .pre) (s .args .name) (passed (c .before .before .before)) (more c)
 
-word-requires : tie.Need-word-requires Inv-loop μ-loop
-word-requires c κs = (room (c .before .before .args .table .now) (c .before .before .args .text .now) (c .before .before .args .object .0) (c .before .before .pre), lit< tt)
+entry : (c : tie.After-read-row2 Inv-loop μ-loop) → RowRead (c .before .before .before .before .before .before .before .before .before .before .args .table .now) (c .before .before .before .before .loop .next .0) (c .read-row2 .result)
+entry c = let s = c .before .before .before .before .before .before .before .before .before .before in row-read (c .read-row2 .ensures) (room (s .args .table .now) (s .args .text .now) (c .before .before .before .before .loop .next .0) (kid (c .before) .is))
 
-add-next : tie.Need-add-next Inv-loop μ-loop
-add-next c = omega (arith, room (c .before .before .before .before .args .table .now) (c .before .before .before .before .args .text .now) (c .before .before .before .before .args .object .0) (c .before .before .before .before .pre))
+read-row-requires : tie.Need-read-row-requires Inv-loop μ-loop
+read-row-requires c κs = tt
+
+add-t10 : tie.Need-add-t10 Inv-loop μ-loop
+add-t10 c =
+    let s = c .before .before .before .before .before in
+    omega (arith, few (s .args .table .now) (s .args .text .now) (s .args .object .0) (s .pre))
 
 loop-holds : tie.Need-loop-holds Inv-loop μ-loop
-loop-holds c = rw (before-first (c .before .before .before .before .args .object .0)) (none-passed (c .before .before .before .before .args .table .now) (c .before .before .before .before .args .text .now) (c .before .before .before .before .args .object .0) (c .before .before .before .before .pre) (c .before .before .before .before .args .name))
+loop-holds c =
+    let s = c .before .before .before .before .before in
+    rw (before-first (s .args .object .0)) (none-passed (s .args .table .now) (s .args .text .now) (s .args .object .0) (s .pre) (s .args .name))
 
-word-requires-2 : tie.Need-word-requires-2 Inv-loop μ-loop
-word-requires-2 c κs = (kid-room (c), lit< tt)
+read-row-requires-2 : tie.Need-read-row-requires-2 Inv-loop μ-loop
+read-row-requires-2 c κs = tt
 
-word-requires-3 : tie.Need-word-requires-3 Inv-loop μ-loop
-word-requires-3 c κs = (kid-room (c .before), lit< tt)
-
-sub-is-name : tie.Need-sub-is-name Inv-loop μ-loop
-sub-is-name c = le-as (c .before .word2 .ensures) (c .word3 .ensures) (kid (c .before .before) .ordered)
-
-part-is-name-start : tie.Need-part-is-name-start Inv-loop μ-loop
-part-is-name-start c = le-as (c .before .word2 .ensures) (c .word3 .ensures) (kid (c .before .before) .ordered)
-
-part-is-name-end : tie.Need-part-is-name-end Inv-loop μ-loop
-part-is-name-end c = le-as (c .word3 .ensures) refl (kid (c .before .before) .inside)
-
-is-name-requires : tie.Need-is-name-requires Inv-loop μ-loop
-is-name-requires c κs = tt
-
-replaced-requires : tie.Need-replaced-requires Inv-loop μ-loop
-replaced-requires c κs = tt
-
-word-requires-4 : tie.Need-word-requires-4 Inv-loop μ-loop
-word-requires-4 c κs = (kid-room (c .before .before .before .before .before), lit< tt)
+is-name-at-requires : tie.Need-is-name-at-requires Inv-loop μ-loop
+is-name-at-requires c κs =
+    let r = entry c in
+    let k = kid (c .before) in
+    (le-as (r .keyfrom) (r .keyto) (k .ordered), le-as (r .keyto) refl (k .inside))
 
 loop-less : tie.Need-loop-less Inv-loop μ-loop
-loop-less c = omega (arith, c .word4 .ensures, later (c .before .before .before .before .before .before .before .before .before .before .before .before .args .table .now) (c .before .before .before .before .before .before .before .before .before .before .before .before .args .text .now) (c .before .before .before .before .before .before .before .loop .next) (kid (c .before .before .before .before .before .before) .is), c .before .before .before .before .before .before .loop-test .taken)
+loop-less c =
+    let s = c .before .before .before .before .before .before .before .before .before .before .before .before .before in
+    let next = c .before .before .before .before .before .before .before .loop .next .0 in
+    omega (arith, entry (c .before .before .before) .past, later (s .args .table .now) (s .args .text .now) next (kid (c .before .before .before .before) .is), c .before .before .before .before .if1 .taken)
 
 loop-again : tie.Need-loop-again Inv-loop μ-loop
 loop-again c =
-    let w = c .before .before .before .before .before .before .before .before .before .before .before .before .args .table .now in
-    let x = c .before .before .before .before .before .before .before .before .before .before .before .before .args .text .now in
-    let keyed : c .before .before .is-name .result ≡ same (slice (word w (c .before .before .before .before .before .before .before .loop .next) 3) (word w (c .before .before .before .before .before .before .before .loop .next) 4) x) (spelling (c .before .before .before .before .before .before .before .before .before .before .before .before .args .name)) = rw (part-slice, c .before .before .before .before .before .word2 .ensures, c .before .before .before .before .word3 .ensures) at (c .before .before .is-name .ensures) in
-    rw (before-first (c .before .before .before .before .before .before .before .before .before .before .before .before .args .object .0), c .word4 .ensures)
+    let s = c .before .before .before .before .before .before .before .before .before .before .before .before .before in
+    let w = s .args .table .now in
+    let x = s .args .text .now in
+    let n = s .args .object .0 in
+    let name = s .args .name in
+    let l = c .before .before .before .before .before .before .before in
+    let next = l .loop .next .0 in
+    let r = entry (c .before .before .before) in
+    let b = c .before .before .is-name-at .result in
+    let keyed : b ≡ same (slice (word w next 3) (word w next 4) x) (spelling name) = rw (r .keyfrom, r .keyto) at (c .before .before .is-name-at .ensures) in
+    rw (before-first n, r .past)
     (⊎-elim
-    (λ t. rw (t .2, t .1 .ensures) (hit w x (c .before .before .before .before .before .before .before .before .before .before .before .before .args .object .0) (c .before .before .before .before .before .before .before .before .before .before .before .before .pre) (c .before .before .before .before .before .before .before .before .before .before .before .before .args .name) (passed (c .before .before .before .before .before .before .before)) (more (c .before .before .before .before .before .before)) (c .before .before .is-name .result) keyed _ refl (t .0 .taken)))
-    (λ t. rw (t .1) (miss w x (c .before .before .before .before .before .before .before .before .before .before .before .before .args .object .0) (c .before .before .before .before .before .before .before .before .before .before .before .before .pre) (c .before .before .before .before .before .before .before .before .before .before .before .before .args .name) (passed (c .before .before .before .before .before .before .before)) (more (c .before .before .before .before .before .before)) (c .before .before .is-name .result) keyed (t .0 .left)))
-    (c .before .if1 .came))
+    (λ t. rw (t .1) (hit w x n (s .pre) name (passed l) (more (c .before .before .before .before)) b keyed (l .loop .next) refl (t .0 .taken)))
+    (λ t. rw (t .1) (miss w x n (s .pre) name (passed l) (more (c .before .before .before .before)) b keyed (t .0 .left)))
+    (c .before .if2 .came))
 
 returns : tie.Need-returns Inv-loop μ-loop
-returns c = all-passed (c .before .before .before .before .before .before .args .table .now) (c .before .before .before .before .before .before .args .text .now) (c .before .before .before .before .before .before .args .object .0) (c .before .before .before .before .before .before .pre) (c .before .before .before .before .before .before .args .name) (passed (c .before)) (rw (c .before .before .before .word .ensures) at (c .loop-test .left))
+returns c =
+    let s = c .before .before .before .before .before .before .before .before .before in
+    all-passed (s .args .table .now) (s .args .text .now) (s .args .object .0) (s .pre) (s .args .name) (passed (c .before .before .before))
+    (rw (whole (c .before .before .before .before .before .before) .past) at (c .if1 .left))
 
 pub lookup-spec : {M : Type 1} → statement M
 lookup-spec =
@@ -90,17 +93,11 @@ lookup-spec =
     (tie.spec
     Inv-loop
     μ-loop
-    word-requires
-    add-next
+    read-row-requires
+    add-t10
     loop-holds
-    word-requires-2
-    word-requires-3
-    sub-is-name
-    part-is-name-start
-    part-is-name-end
-    is-name-requires
-    replaced-requires
-    word-requires-4
+    read-row-requires-2
+    is-name-at-requires
     loop-less
     loop-again
     returns)

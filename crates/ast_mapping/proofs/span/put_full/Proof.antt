@@ -1,6 +1,6 @@
--- `span::put_full` meets its contract: the lists follow one another in the table. Assumes nothing.
+-- `span::put_full` meets its contract: three lists, one after the other. Assumes nothing.
+use mathlib.Core.Path.{_∙_}
 use native.Mathlib.Omega.{arith}
-use mathlib.Core.Path.{_≡_, _∙_}
 use lib.ListN.{length, length-append}
 use Rattle.ast_mapping.specs.View.{stringsOf}
 use Rattle.ast_mapping.proofs.Spans.{put-lists, Room, room-first, room-second, room-third, fits-first}
@@ -8,17 +8,21 @@ use Rattle.ast_mapping.proofs.span.put_full.Statement.{statement}
 use Rattle.ast_mapping.proofs.span.put_full.Tie as tie
 
 room : (c : tie.Start)
-    → Room (length (stringsOf (c .args .table .now) (c .args .headers .0))) (length (stringsOf (c .args .table .now) (c .args .query .0))) (length (stringsOf (c .args .table .now) (c .args .list .0))) (length (c .args .spans .now))
+    → let w = c .args .table .now in
+    Room (length (stringsOf w (c .args .headers .0))) (length (stringsOf w (c .args .query .0))) (length (stringsOf w (c .args .list .0))) (length (c .args .spans .now))
 room c = let all = simp length-append at (c .pre .1) in record { words = all .0; few = all .1 }
 
 put-list-requires : tie.Need-put-list-requires
 put-list-requires c κs = (c .before .before .before .pre .0 .0, room-first (room (c .before .before .before)))
 
 put-list-requires-2 : tie.Need-put-list-requires-2
-put-list-requires-2 c κs = (c .before .before .before .before .before .before .before .pre .0 .1, room-second (room (c .before .before .before .before .before .before .before)) (c .before .before .before .put-list .ensures .count) (c .before .before .before .put-list .kept .1 .1 .0))
+put-list-requires-2 c κs = let p = c .before .before .before .put-list in (c .before .before .before .before .before .before .before .pre .0 .1, room-second (room (c .before .before .before .before .before .before .before)) (p .ensures .count) (p .kept .1 .1 .0))
 
 put-list-requires-3 : tie.Need-put-list-requires-3
-put-list-requires-3 c κs = (c .before .before .before .before .before .before .before .before .before .before .before .pre .0 .2, room-third (room (c .before .before .before .before .before .before .before .before .before .before .before)) (c .before .before .before .before .before .before .before .put-list .ensures .count) (c .before .before .before .put-list2 .ensures .count) (c .before .before .before .before .before .before .before .put-list .kept .1 .1 .0) (c .before .before .before .put-list2 .kept .1 .1 .0))
+put-list-requires-3 c κs =
+    let p = c .before .before .before .before .before .before .before .put-list in
+    let q = c .before .before .before .put-list2 in
+    (c .before .before .before .before .before .before .before .before .before .before .before .pre .0 .2, room-third (room (c .before .before .before .before .before .before .before .before .before .before .before)) (p .ensures .count) (q .ensures .count) (p .kept .1 .1 .0) (q .kept .1 .1 .0))
 
 cast-t16 : tie.Need-cast-t16
 cast-t16 c = fits-first (room (c .before .before .before .before .before .before .before .before .before .before .before .before .before .before)) (c .before .before .before .before .before .before .before .before .before .before .put-list .ensures .count)
@@ -33,13 +37,33 @@ sub-t19 : tie.Need-sub-t19
 sub-t19 c = omega (arith, c .before .before .put-list3 .ensures .count)
 
 cast-t20 : tie.Need-cast-t20
-cast-t20 c = omega (arith, room (c .before .before .before .before .before .before .before .before .before .before .before .before .before .before) .few, c .before .before .before .before .before .before .before .before .before .before .put-list .ensures .count, c .before .before .before .before .before .before .put-list2 .ensures .count, c .before .before .put-list3 .ensures .count)
+cast-t20 c =
+    let n = c .before .before .before .before .before .before .before .before .before .before in
+    omega (arith, room (n .before .before .before .before) .few, n .put-list .ensures .count, c .before .before .before .before .before .before .put-list2 .ensures .count, c .before .before .put-list3 .ensures .count)
 
 same-length : tie.Need-same-length
 same-length c = c .before .before .put-list3 .kept .1 .1 .0 ∙ c .before .before .before .before .before .before .put-list2 .kept .1 .1 .0 ∙ c .before .before .before .before .before .before .before .before .before .before .put-list .kept .1 .1 .0
 
 returns : tie.Need-returns
-returns c = put-lists (c .before .before .before .before .before .before .before .before .before .before .before .before .before .before .args .table .now) (c .before .before .before .before .before .before .before .before .before .before .before .before .before .before .args .headers) (c .before .before .before .before .before .before .before .before .before .before .before .before .before .before .args .query) (c .before .before .before .before .before .before .before .before .before .before .before .before .before .before .args .list) (c .before .before .before .before .before .before .before .before .before .before .before .before .before .before .args .kind) (c .before .before .before .before .before .before .before .before .before .before .before .before .before .before .args .spans .now) (c .before .before .before .before .before .before .before .before .before .before .put-list .last .1 .1 .0) (c .before .before .before .before .before .before .put-list2 .last .1 .1 .0) (c .before .before .put-list3 .last .1 .1 .0) (c .before .before .before .before .before .before .before .before .before .before .put-list .result) (c .before .before .before .before .before .before .put-list2 .result) (c .before .before .put-list3 .result) (c .before .before .before .before .before .before .before .before .before .before .put-list .ensures) (c .before .before .before .before .before .before .put-list2 .ensures) (c .before .before .put-list3 .ensures)
+returns c =
+    let s = c .before .before .before .before .before .before .before .before .before .before .before .before .before .before in
+    let p = c .before .before .before .before .before .before .before .before .before .before .put-list in
+    let q = c .before .before .before .before .before .before .put-list2 in
+    let r = c .before .before .put-list3 in
+    put-lists (s .args .table .now) (s .args .headers) (s .args .query) (s .args .list) (s .args .kind) (s .args .spans .now) (p .last .1 .1 .0)
+    (q .last .1 .1 .0) (r .last .1 .1 .0) (p .result) (q .result) (r .result) (p .ensures) (q .ensures) (r .ensures)
 
 pub put-full-spec : {M : Type 1} → statement M
-put-full-spec = tie.close (tie.spec put-list-requires put-list-requires-2 put-list-requires-3 cast-t16 sub-t17 cast-t18 sub-t19 cast-t20 same-length returns)
+put-full-spec =
+    tie.close
+    (tie.spec
+    put-list-requires
+    put-list-requires-2
+    put-list-requires-3
+    cast-t16
+    sub-t17
+    cast-t18
+    sub-t19
+    cast-t20
+    same-length
+    returns)

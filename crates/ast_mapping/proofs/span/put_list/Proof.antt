@@ -1,121 +1,140 @@
 -- `span::put_list` meets its contract: what is still to be put, put into the table as it is, gives the table as it has to be. Assumes nothing.
-use mathlib.Core.Path.{_≡_, refl, sym, ap, _∙_}
-use Prim.Native.Nat.{ℕ, suc, _-_, _+_, _*_, _^_, _≤_, _<_}
+use mathlib.Core.Path.{_≡_, refl, sym, _∙_}
+use Prim.Native.Nat.{_-_, _+_, _*_, _^_, _≤_, _<_}
 use native.Mathlib.Numerals.{add-one, add-one-le}
 use native.Mathlib.Nat.{le-refl}
-use native.Mathlib.Omega.{arith}
-use lib.Dec.{lit<}
-use borrow.Author.Count.{falls}
-use Rattle.ast_mapping.proofs.Counts.{lt-as, turn-first, turn-later, fits-node, fits-row, fits-word, fits-bytes, fits-string, fits-from, fits-from-bytes, fits-to, fits-to-bytes, row-word, span-from, span-to, span-near}
-use Rattle.ast_mapping.proofs.Lists.{tabled-row, tabled-small}
-use lib.ListN.{length, set, length-set}
+use lib.ListN.{length, length-set}
 use lib.Seq.{sets}
-use Rattle.cel_text.specs.Table.{Words}
+use borrow.Author.Count.{falls}
+use Rattle.cel_text.specs.Reading.{maxNodes}
+use Rattle.cel_text.specs.Table.{rowWords, word}
 use Rattle.cel_policy.specs.Spans.{spanRows}
-use Rattle.ast_mapping.specs.View.{word, spansFrom}
+use Rattle.ast_mapping.specs.View.{spansFrom}
+use Rattle.ast_mapping.proofs.Counts.{lt-as, turn-first, turn-later, fits-node, fits-string, fits-from, fits-from-bytes, fits-to, fits-to-bytes, span-from, span-to, span-near}
+use Rattle.ast_mapping.proofs.View.{RowRead, row-read}
+use Rattle.ast_mapping.proofs.Lists.{tabled-row, tabled-small}
 use Rattle.ast_mapping.proofs.Spans.{put-one, put-none, place-first, place-next, place-room, place-last}
 use Rattle.ast_mapping.proofs.span.put_list.Statement.{statement}
 use Rattle.ast_mapping.proofs.span.put_list.Tie as tie
+use native.Mathlib.Omega.{arith}
 
 abbrev Inv-loop : tie.InvT-loop
-Inv-loop table spans₀ from end next₀ at₀ spans next at = (next₀ ≤ next) × (next ≤ end) × (at ≡ from + (next - next₀)) × (length spans ≡ length spans₀) × (sets spans₀ (2 * from) (spanRows (spansFrom table next₀ (end - next₀))) ≡ sets spans (2 * at) (spanRows (spansFrom table next (end - next))))
+Inv-loop table spans₀ from end next₀ at₀ spans next at =
+    (next₀ .0 ≤ next .0)
+    × (next .0 ≤ end .0)
+    × (at ≡ from + (next .0 - next₀ .0))
+    × (length spans ≡ length spans₀)
+    × (sets spans₀ (2 * from) (spanRows (spansFrom table (next₀ .0) (end .0 - next₀ .0)))
+    ≡ sets spans (2 * at) (spanRows (spansFrom table (next .0) (end .0 - next .0))))
 
 abbrev μ-loop : tie.MeasureT-loop
-μ-loop table spans₀ from end next₀ at₀ spans next at = end - next
+μ-loop table spans₀ from end next₀ at₀ spans next at = end .0 - next .0
 
 long : (c : tie.Start Inv-loop μ-loop) → length (c .args .spans .now) * 4 < 2 ^ 63
 long c = omega arith
 
-room : (c : tie.In-loop Inv-loop μ-loop) → 2 * (c .before .loop .at) + 2 ≤ length (c .before .loop .spans)
+whole : (c : tie.After-read-row Inv-loop μ-loop) → let s = c .before .before .before in RowRead (s .args .table .now) (s .args .list .0) (c .read-row .result)
+whole c = let s = c .before .before .before in row-read (c .read-row .ensures) (tabled-row (s .pre .0) (s .args .list .0) (s .pre .0 .begun))
+
+room : (c : tie.Then1 Inv-loop μ-loop) → let l = c .before .before .before in 2 * l .loop .at + 2 ≤ length (l .loop .spans)
 room c =
-    let s = c .before .before .before .before .before .before in
-    place-room (s .args .table .now) (s .args .list .0) (s .args .from) (c .before .before .before .word .ensures) (c .before .loop .inv .0) (c .before .loop .inv .2) (s .pre .1) (c .before .loop .inv .3) (c .loop-test .taken)
+    let s = c .before .before .before .before .before .before .before .before .before in
+    let l = c .before .before .before in
+    place-room (s .args .table .now) (s .args .list .0) (s .args .from) (whole (c .before .before .before .before .before .before) .past) (l .loop .inv .0) (l .loop .inv .2) (s .pre .1) (l .loop .inv .3) (c .if1 .taken)
 
-near : (c : tie.In-loop Inv-loop μ-loop) → c .before .loop .at < 2 ^ 60
-near c = span-near (c .before .loop .at) (room c) (c .before .loop .inv .3) (long (c .before .before .before .before .before .before))
+near : (c : tie.Then1 Inv-loop μ-loop) → c .before .before .before .loop .at < 2 ^ 60
+near c = span-near (c .before .before .before .loop .at) (room c) (c .before .before .before .loop .inv .3) (long (c .before .before .before .before .before .before .before .before .before))
 
-more : (c : tie.In-loop Inv-loop μ-loop) → c .before .loop .next < word (c .before .before .before .before .before .before .args .table .now) (c .before .before .before .before .before .before .args .list .0) 7
-more c = lt-as (c .before .before .before .word .ensures) (c .loop-test .taken)
+more : (c : tie.Then1 Inv-loop μ-loop) → let s = c .before .before .before .before .before .before .before .before .before in c .before .before .before .loop .next .0 < word (s .args .table .now) (s .args .list .0) 7
+more c = lt-as (whole (c .before .before .before .before .before .before) .past) (c .if1 .taken)
 
-small : (c : tie.In-loop Inv-loop μ-loop) → c .before .loop .next < 256
-small c = tabled-small (c .before .before .before .before .before .before .pre .0) (c .before .loop .next) (more c)
+small : (c : tie.Then1 Inv-loop μ-loop) → c .before .before .before .loop .next .0 < maxNodes
+small c = tabled-small (c .before .before .before .before .before .before .before .before .before .pre .0) (c .before .before .before .loop .next .0) (more c)
 
-within : (c : tie.In-loop Inv-loop μ-loop) → (j : ℕ) → j < 8 → 8 * (c .before .loop .next) + j < length (c .before .before .before .before .before .before .args .table .now)
-within c j h = row-word (c .before .loop .next) (tabled-row (c .before .before .before .before .before .before .pre .0) (c .before .loop .next) (more c)) h
+string : (c : tie.After-read-row2 Inv-loop μ-loop) → RowRead (c .before .before .before .before .before .before .before .before .before .before .args .table .now) (c .before .before .before .before .loop .next .0) (c .read-row2 .result)
+string c = row-read (c .read-row2 .ensures) (tabled-row (c .before .before .before .before .before .before .before .before .before .before .pre .0) (c .before .before .before .before .loop .next .0) (more (c .before)))
 
-word-requires : tie.Need-word-requires Inv-loop μ-loop
-word-requires c κs = (tabled-row (c .before .before .pre .0) (c .before .before .args .list .0) (c .before .before .pre .0 .begun), lit< tt)
+read-row-requires : tie.Need-read-row-requires Inv-loop μ-loop
+read-row-requires c κs = tt
 
-add-next : tie.Need-add-next Inv-loop μ-loop
-add-next c = fits-node (tabled-small (c .before .before .before .before .pre .0) (c .before .before .before .before .args .list .0) (c .before .before .before .before .pre .0 .begun))
+add-t10 : tie.Need-add-t10 Inv-loop μ-loop
+add-t10 c = let s = c .before .before .before .before .before in fits-node (tabled-small (s .pre .0) (s .args .list .0) (s .pre .0 .begun))
 
 loop-holds : tie.Need-loop-holds Inv-loop μ-loop
-loop-holds c = (le-refl (c .before .before .before .before .args .list .0 + 1), turn-first (c .before .word .ensures) (c .before .before .before .before .pre .0 .begun), place-first (c .before .before .before .before .args .from) (c .before .before .before .before .args .list .0 + 1), refl, refl)
+loop-holds c =
+    let s = c .before .before .before .before .before in
+    let n = s .args .list .0 + 1 in
+    (le-refl n, turn-first (whole (c .before .before) .past) (s .pre .0 .begun), place-first (s .args .from) n, refl, refl)
+
+read-row-requires-2 : tie.Need-read-row-requires-2 Inv-loop μ-loop
+read-row-requires-2 c κs = tt
+
+cast-spans : tie.Need-cast-spans Inv-loop μ-loop
+cast-spans c = omega (arith, string (c .before) .from, c .before .before .before .before .before .before .before .before .before .before .shared-slice-known .given (rowWords * c .before .before .before .before .before .loop .next .0 + 1))
 
 mul-spans : tie.Need-mul-spans Inv-loop μ-loop
-mul-spans c = fits-row (small c)
-
-add-spans : tie.Need-add-spans Inv-loop μ-loop
-add-spans c = fits-word (small c) 1 (lit< tt)
+mul-spans c = fits-from (near (c .before .before))
 
 mul-spans-2 : tie.Need-mul-spans-2 Inv-loop μ-loop
-mul-spans-2 c = fits-bytes (small c) 1 (lit< tt)
-
-shared-slice-read-spans : tie.Need-shared-slice-read-spans Inv-loop μ-loop
-shared-slice-read-spans c = within (c .before) 1 (lit< tt)
-
-mul-spans-3 : tie.Need-mul-spans-3 Inv-loop μ-loop
-mul-spans-3 c = fits-from (near (c .before))
-
-mul-spans-4 : tie.Need-mul-spans-4 Inv-loop μ-loop
-mul-spans-4 c = fits-from-bytes (near (c .before))
+mul-spans-2 c = fits-from-bytes (near (c .before .before))
 
 slice-write-spans : tie.Need-slice-write-spans Inv-loop μ-loop
-slice-write-spans c = span-from (c .before .before .loop .at) (room (c .before))
+slice-write-spans c = span-from (c .before .before .before .before .before .loop .at) (room (c .before .before))
 
-mul-spans-5 : tie.Need-mul-spans-5 Inv-loop μ-loop
-mul-spans-5 c = fits-row (small (c .before))
+cast-spans-2 : tie.Need-cast-spans-2 Inv-loop μ-loop
+cast-spans-2 c = omega (arith, string (c .before .before) .to, c .before .before .before .before .before .before .before .before .before .before .before .shared-slice-known .given (rowWords * c .before .before .before .before .before .before .loop .next .0 + 2))
 
-add-spans-2 : tie.Need-add-spans-2 Inv-loop μ-loop
-add-spans-2 c = fits-word (small (c .before)) 2 (lit< tt)
+mul-spans-3 : tie.Need-mul-spans-3 Inv-loop μ-loop
+mul-spans-3 c = fits-from (near (c .before .before .before))
 
-mul-spans-6 : tie.Need-mul-spans-6 Inv-loop μ-loop
-mul-spans-6 c = fits-bytes (small (c .before)) 2 (lit< tt)
+add-spans : tie.Need-add-spans Inv-loop μ-loop
+add-spans c = fits-to (near (c .before .before .before))
 
-shared-slice-read-spans-2 : tie.Need-shared-slice-read-spans-2 Inv-loop μ-loop
-shared-slice-read-spans-2 c = within (c .before .before) 2 (lit< tt)
-
-mul-spans-7 : tie.Need-mul-spans-7 Inv-loop μ-loop
-mul-spans-7 c = fits-from (near (c .before .before))
-
-add-spans-3 : tie.Need-add-spans-3 Inv-loop μ-loop
-add-spans-3 c = fits-to (near (c .before .before))
-
-mul-spans-8 : tie.Need-mul-spans-8 Inv-loop μ-loop
-mul-spans-8 c = fits-to-bytes (near (c .before .before))
+mul-spans-4 : tie.Need-mul-spans-4 Inv-loop μ-loop
+mul-spans-4 c = fits-to-bytes (near (c .before .before .before))
 
 slice-write-spans-2 : tie.Need-slice-write-spans-2 Inv-loop μ-loop
-slice-write-spans-2 c = simp length-set (span-to (c .before .before .before .loop .at) (room (c .before .before)))
+slice-write-spans-2 c = simp length-set (span-to (c .before .before .before .before .before .before .loop .at) (room (c .before .before .before)))
 
-add-next-2 : tie.Need-add-next-2 Inv-loop μ-loop
-add-next-2 c = fits-node (small (c .before .before))
+add-t14 : tie.Need-add-t14 Inv-loop μ-loop
+add-t14 c = fits-node (small (c .before .before .before .before))
 
 add-at : tie.Need-add-at Inv-loop μ-loop
-add-at c = fits-string (near (c .before .before))
+add-at c = fits-string (near (c .before .before .before .before))
 
 loop-less : tie.Need-loop-less Inv-loop μ-loop
-loop-less c = falls _ _ (c .before .before .loop-test .taken)
+loop-less c = falls _ _ (c .before .before .before .before .if1 .taken)
 
 loop-again : tie.Need-loop-again Inv-loop μ-loop
-loop-again c = (turn-later (c .before .before .before .loop .inv .0), add-one-le (c .before .before .loop-test .taken), place-next (c .before .before .before .before .before .before .before .before .args .from) (c .before .before .before .loop .inv .0) (c .before .before .before .loop .inv .2), simp length-set (c .before .before .before .loop .inv .3), c .before .before .before .loop .inv .4 ∙ put-one (c .before .before .before .before .before .before .before .before .args .table .now) (c .before .before .before .loop .spans) (c .before .before .before .loop .next) (c .before .before .before .before .before .word .result) (c .before .before .before .loop .at) (c .before .before .loop-test .taken))
+loop-again c =
+    let s = c .before .before .before .before .before .before .before .before .before .before .before .before .before in
+    let l = c .before .before .before .before .before .before .before in
+    let r = string (c .before .before .before) in (
+      turn-later (l .loop .inv .0),
+      add-one-le (c .before .before .before .before .if1 .taken),
+      place-next (s .args .from) (l .loop .inv .0) (l .loop .inv .2),
+      simp length-set (l .loop .inv .3),
+      rw (r .from, r .to)
+          (l .loop .inv .4 ∙ put-one (s .args .table .now) (l .loop .spans) (l .loop .next .0) (c .before .before .before .before .before .before .before .before .before .before .read-row .result .past .0) (l .loop .at) (c .before .before .before .before .if1 .taken)),
+    )
 
 same-length : tie.Need-same-length Inv-loop μ-loop
-same-length c = c .before .loop .inv .3
+same-length c = c .before .before .before .loop .inv .3
 
 returns : tie.Need-returns Inv-loop μ-loop
 returns c =
-    let done : c .before .loop .spans ≡ sets (c .before .before .before .before .before .before .args .spans .now) (2 * c .before .before .before .before .before .before .args .from) (spanRows (spansFrom (c .before .before .before .before .before .before .args .table .now) (c .before .before .before .before .before .before .args .list .0 + 1) (c .before .before .before .word .result - (c .before .before .before .before .before .before .args .list .0 + 1)))) = put-none (c .before .before .before .before .before .before .args .table .now) (c .before .loop .spans) (c .before .loop .next) (c .before .before .before .word .result) (c .before .loop .at) (c .loop-test .left) ∙ sym (c .before .loop .inv .4) in
-    record { rows = rw (add-one, c .before .before .before .word .ensures) at done; count = place-last (c .before .before .before .before .before .before .args .table .now) (c .before .before .before .before .before .before .args .list .0) (c .before .before .before .before .before .before .args .from) (c .before .before .before .word .ensures) (c .before .loop .inv .0) (c .before .loop .inv .2) (c .before .loop .inv .1) (c .loop-test .left) }
+    let s = c .before .before .before .before .before .before .before .before .before in
+    let w = s .args .table .now in
+    let n = s .args .list .0 in
+    let l = c .before .before .before in
+    let end = c .before .before .before .before .before .before .read-row .result .past .0 in
+    let past = whole (c .before .before .before .before .before .before) .past in
+    let done : l .loop .spans ≡ sets (s .args .spans .now) (2 * s .args .from) (spanRows (spansFrom w (n + 1) (end - (n + 1))))
+    = put-none w (l .loop .spans) (l .loop .next .0) end (l .loop .at) (c .if1 .left) ∙ sym (l .loop .inv .4) in
+    record {
+      rows = rw (add-one, past) at done;
+      count = place-last w n (s .args .from) past (l .loop .inv .0) (l .loop .inv .2) (l .loop .inv .1) (c .if1 .left);
+    }
 
 pub put-list-spec : {M : Type 1} → statement M
 put-list-spec =
@@ -123,25 +142,20 @@ put-list-spec =
     (tie.spec
     Inv-loop
     μ-loop
-    word-requires
-    add-next
+    read-row-requires
+    add-t10
     loop-holds
+    read-row-requires-2
+    cast-spans
     mul-spans
-    add-spans
     mul-spans-2
-    shared-slice-read-spans
-    mul-spans-3
-    mul-spans-4
     slice-write-spans
-    mul-spans-5
-    add-spans-2
-    mul-spans-6
-    shared-slice-read-spans-2
-    mul-spans-7
-    add-spans-3
-    mul-spans-8
+    cast-spans-2
+    mul-spans-3
+    add-spans
+    mul-spans-4
     slice-write-spans-2
-    add-next-2
+    add-t14
     add-at
     loop-less
     loop-again

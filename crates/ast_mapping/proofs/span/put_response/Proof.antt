@@ -1,5 +1,5 @@
--- `span::put_response` meets its contract: its one list is put at the table's start. Assumes nothing.
-use mathlib.Core.Path.{_≡_, _∙_}
+-- `span::put_response` meets its contract: the one list. Assumes nothing.
+use mathlib.Core.Path.{_≡_}
 use native.Mathlib.Omega.{arith}
 use lib.ListN.{length}
 use Rattle.ast_mapping.specs.View.{stringsOf}
@@ -17,8 +17,10 @@ same-length c = c .before .before .put-list .kept .1 .1 .0
 
 returns : tie.Need-returns
 returns c =
-    let count : c .before .before .put-list .result ≡ length (stringsOf (c .before .before .before .before .before .before .args .table .now) (c .before .before .before .before .before .before .args .list .0)) = omega (arith, c .before .before .put-list .ensures .count) in
-    record { rows = c .before .before .put-list .ensures .rows; counts = rw count }
+    let s = c .before .before .before .before .before .before in
+    let p = c .before .before .put-list in
+    let count : p .result ≡ length (stringsOf (s .args .table .now) (s .args .list .0)) = omega (arith, p .ensures .count) in
+    record { rows = p .ensures .rows; counts = rw count }
 
 pub put-response-spec : {M : Type 1} → statement M
 put-response-spec = tie.close (tie.spec put-list-requires cast-t8 same-length returns)

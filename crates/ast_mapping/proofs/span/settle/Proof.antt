@@ -1,49 +1,86 @@
--- `span::settle` meets its contract: the strings are put, and the words that the answer leaves spare are cleared. Assumes nothing.
-use mathlib.Core.Path.{_≡_, refl, sym, _∙_}
-use native.Mathlib.Omega.{arith}
-use Prim.Native.Nat.{_+_, _≤_}
-use lib.ListN.{length}
-use Rattle.ast_mapping.specs.Steps.{mappedAs}
-use Rattle.ast_mapping.specs.Spans.{strings}
-use Rattle.ast_mapping.proofs.Spans.{count-of, settled}
+-- `span::settle` meets its contract, case by case. Assumes nothing.
+use mathlib.Core.Path.{refl, ap, _∙_}
+use Rattle.cel_text.specs.Answer.{Answer}
+use Rattle.cel_policy.specs.Policy.{Counted, noPolicy}
+use Rattle.cel_policy.specs.Answers.{PolicyAnswer}
+use Rattle.parser.specs.Found.{told}
 use Rattle.ast_mapping.proofs.span.settle.Statement.{statement}
 use Rattle.ast_mapping.proofs.span.settle.Tie as tie
 
-sum : (c : tie.After-put-strings) → c .put-strings .result .request + c .put-strings .result .query + c .put-strings .result .response ≤ 256
-sum c = omega (arith, c .before .before .before .before .pre .1 .0 .1 .1, count-of (mappedAs (c .before .before .before .before .args .table .now) (c .before .before .before .before .args .mapped)) (c .put-strings .result) (c .put-strings .ensures .counts))
+enum-told : tie.Need-enum-told
+enum-told c = c .match .keys1
 
-put-strings-requires : tie.Need-put-strings-requires
-put-strings-requires c κs = (c .before .before .before .pre .0, c .before .before .before .pre .1 .0 .1)
+skip-requires : tie.Need-skip-requires
+skip-requires c κs = tt
 
-answer-of-requires : tie.Need-answer-of-requires
-answer-of-requires c κs = tt
+enum-known-mapped : tie.Need-enum-known-mapped
+enum-known-mapped c = c .match .keys2
 
-cast-count : tie.Need-cast-count
-cast-count c = omega (arith, sum (c .before .before .before .before))
+put-response-requires : tie.Need-put-response-requires
+put-response-requires c κs = let s = c .before .before .before .before .before .before in (rw (c .before .before .mapped .given .1) at (s .pre .0), rw (c .before .before .mapped .given .1) at (s .pre .1))
 
-cast-count-2 : tie.Need-cast-count-2
-cast-count-2 c = omega (arith, sum (c .before .before .before .before .before))
+enum-known-mapped-2 : tie.Need-enum-known-mapped-2
+enum-known-mapped-2 c = c .match .keys3
 
-add-count : tie.Need-add-count
-add-count c = omega (arith, sum (c .before .before .before .before .before))
+put-full-requires : tie.Need-put-full-requires
+put-full-requires c κs = let s = c .before .before .before .before .before .before in (rw (c .before .before .mapped2 .given .1) at (s .pre .0), rw (c .before .before .mapped2 .given .1) at (s .pre .1))
 
-cast-count-3 : tie.Need-cast-count-3
-cast-count-3 c = omega (arith, sum (c .before .before .before .before .before .before))
+enum-known-mapped-3 : tie.Need-enum-known-mapped-3
+enum-known-mapped-3 c = c .match .keys4
 
-add-count-2 : tie.Need-add-count-2
-add-count-2 c = omega (arith, sum (c .before .before .before .before .before .before))
+refused-in-requires : tie.Need-refused-in-requires
+refused-in-requires c κs = rw (c .before .mapped3 .given .1) at (c .before .before .before .before .before .pre .0)
 
-spare-requires : tie.Need-spare-requires
-spare-requires c κs = sum (c .before .before .before .before .before .before .before)
-
-clear-requires : tie.Need-clear-requires
-clear-requires c κs = tt
-
-same-length : tie.Need-same-length
-same-length c = c .before .before .clear .kept .0 ∙ c .before .before .before .before .before .before .before .before .before .before .before .put-strings .kept .1 .1 .0
+without-policy-requires : tie.Need-without-policy-requires
+without-policy-requires c κs = tt
 
 returns : tie.Need-returns
-returns c = settled (c .before .before .before .before .before .before .before .before .before .before .before .before .before .before .before .args .table .now) (c .before .before .before .before .before .before .before .before .before .before .before .before .before .before .before .args .mapped) (c .before .before .before .before .before .before .before .before .before .before .before .before .before .before .before .args .tree) (c .before .before .before .before .before .before .before .before .answer-of .result) (c .before .before .before .before .before .before .before .before .before .before .before .put-strings .result) (c .before .before .before .before .before .before .before .before .before .before .before .before .before .before .before .args .spans .now) (c .before .before .before .before .before .before .before .before .before .before .before .put-strings .last .1 .1 .0) (c .before .before .clear .last .0) (c .before .before .before .spare .result) (c .before .before .before .before .before .before .before .before .before .before .before .before .before .before .before .pre .1 .0 .0) (c .before .before .before .before .before .before .before .before .before .before .before .before .before .before .before .pre .1 .1 .0) (c .before .before .before .before .before .before .before .before .before .before .before .before .before .before .before .pre .1 .1 .1) (c .before .before .before .before .before .before .before .before .before .before .before .before .before .before .before .pre .1 .0 .1) (c .before .before .before .before .before .before .before .before .before .before .before .put-strings .ensures) (c .before .before .before .before .before .before .before .before .answer-of .ensures) (c .before .before .before .spare .ensures) (c .before .before .clear .ensures)
+returns c =
+    let a = c .before .before .before .before .before .args .tree in
+    rw (c .before .enum-told .given .1) (record { answer = ap (λ (p : Counted). record { answer = told a; policy = p }) (c .skip .ensures); rows = refl })
+
+same-length : tie.Need-same-length
+same-length c = c .before .before .put-response .kept .1 .1 .1 .0
+
+returns-2 : tie.Need-returns-2
+returns-2 c =
+    let a = c .before .before .before .before .before .before .before .before .before .args .tree in
+    let p = c .before .before .put-response .ensures in
+    rw (c .before .before .before .before .before .mapped .given .1) (record { answer = ap (λ (k : Counted). record { answer = told a; policy = k }) (p .counts); rows = p .rows })
+
+same-length-2 : tie.Need-same-length-2
+same-length-2 c = c .before .before .put-full .kept .1 .1 .1 .1 .1 .0
+
+returns-3 : tie.Need-returns-3
+returns-3 c =
+    let a = c .before .before .before .before .before .before .before .before .before .args .tree in
+    let p = c .before .before .put-full .ensures in
+    rw (c .before .before .before .before .before .mapped2 .given .1) (record { answer = ap (λ (k : Counted). record { answer = told a; policy = k }) (p .counts); rows = p .rows })
+
+returns-4 : tie.Need-returns-4
+returns-4 c =
+    rw (c .before .before .before .mapped3 .given .1)
+    (record {
+      answer = c .without-policy .ensures ∙ ap (λ (b : Answer). record { answer = b; policy = noPolicy }) (c .before .refused-in .ensures);
+      rows = refl;
+    })
 
 pub settle-spec : {M : Type 1} → statement M
-settle-spec = tie.close (tie.spec put-strings-requires answer-of-requires cast-count cast-count-2 add-count cast-count-3 add-count-2 spare-requires clear-requires same-length returns)
+settle-spec =
+    tie.close
+    (tie.spec
+    enum-told
+    skip-requires
+    enum-known-mapped
+    put-response-requires
+    enum-known-mapped-2
+    put-full-requires
+    enum-known-mapped-3
+    refused-in-requires
+    without-policy-requires
+    returns
+    same-length
+    returns-2
+    same-length-2
+    returns-3
+    returns-4)

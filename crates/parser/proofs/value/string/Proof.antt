@@ -1,12 +1,13 @@
 -- `value::string` meets its contract: content, blanks and a quote are what the machine takes, and the row is put in two parts. Assumes nothing.
-use mathlib.Core.Path.{sym, _∙_}
+use mathlib.Core.Path.{refl, sym, _∙_}
 use Prim.Native.Nat.{_≤_}
-use borrow.Author.Needs.{needs}
+use native.Mathlib.Numerals.{add-one}
 use lib.ListN.{length}
 use Rattle.cel_text.specs.Byte.{blank}
 use Rattle.parser.specs.Set.{stringSet}
 use Rattle.parser.proofs.Runs.{end-within}
 use Rattle.parser.proofs.Values.{string-refused, string-whole}
+use borrow.Author.Needs.{needs}
 use Rattle.parser.proofs.value.string.Statement.{statement}
 use Rattle.parser.proofs.value.string.Tie as tie
 use native.Mathlib.Omega.{arith}
@@ -23,7 +24,9 @@ peek-requires c κs = search needs
 returns : tie.Need-returns
 returns c =
     let a = c .before .before .before .before .before .before .args in
-    λ o left. string-refused (a .text .now) o (a .at .0) (c .before .before .before .run-of .result .0) (c .before .before .run-of2 .result .0) (a .node .0) left (c .before .before .before .run-of .ensures) (c .before .before .run-of2 .ensures) (c .before .before .before .before .before .before .pre .0 .0) (λ e. c .if1 .taken (c .before .peek .ensures ∙ e))
+    let r = c .before .before .before .run-of in
+    let q = c .before .before .run-of2 in
+    λ o left. string-refused (a .text .now) o (a .at .0) (r .result .0) (q .result .0) (a .node .0) left (r .ensures) (q .ensures) (c .before .before .before .before .before .before .pre .0 .0) (λ e. c .if1 .taken (c .before .peek .ensures ∙ e))
 
 add-t14 : tie.Need-add-t14
 add-t14 c = search needs
@@ -31,7 +34,8 @@ add-t14 c = search needs
 open-row-requires : tie.Need-open-row-requires
 open-row-requires c κs =
     let a = c .before .before .before .before .before .before .before .before .args in
-    let h : c .before .before .before .before .before .run-of .result .0 ≤ length (a .text .now) = rw (c .before .before .before .before .before .run-of .ensures) (end-within stringSet (a .text .now) (a .at .0) (c .before .before .before .before .before .before .before .before .pre .0 .0)) in
+    let r = c .before .before .before .before .before .run-of in
+    let h : r .result .0 ≤ length (a .text .now) = rw (r .ensures) (end-within stringSet (a .text .now) (a .at .0) (c .before .before .before .before .before .before .before .before .pre .0 .0)) in
     omega arith
 
 close-row-requires : tie.Need-close-row-requires
@@ -40,9 +44,11 @@ close-row-requires c κs = search needs
 add-t14-2 : tie.Need-add-t14-2
 add-t14-2 c =
     let a = c .before .before .before .before .before .before .before .before .before .before .before .before .before .before .before .before .args in
-    let h : c .before .before .before .before .before .before .before .before .before .before .before .before .before .run-of .result .0 ≤ length (a .text .now) = rw (c .before .before .before .before .before .before .before .before .before .before .before .before .before .run-of .ensures) (end-within stringSet (a .text .now) (a .at .0) (c .before .before .before .before .before .before .before .before .before .before .before .before .before .before .before .before .pre .0 .0)) in
-    let h′ : c .before .before .before .before .before .before .before .before .before .before .before .before .run-of2 .result .0 ≤ length (a .text .now) = rw (c .before .before .before .before .before .before .before .before .before .before .before .before .run-of2 .ensures) (end-within blank (a .text .now) (c .before .before .before .before .before .before .before .before .before .before .before .before .before .run-of .result .0) h) in
-    omega arith
+    let r = c .before .before .before .before .before .before .before .before .before .before .before .before .before .run-of in
+    let q = c .before .before .before .before .before .before .before .before .before .before .before .before .run-of2 in
+    let h : r .result .0 ≤ length (a .text .now) = rw (r .ensures) (end-within stringSet (a .text .now) (a .at .0) (c .before .before .before .before .before .before .before .before .before .before .before .before .before .before .before .before .pre .0 .0)) in
+    let h′ : q .result .0 ≤ length (a .text .now) = rw (q .ensures) (end-within blank (a .text .now) (r .result .0) h) in
+    omega (arith, c .before .before .before .before .before .before .before .before .before .before .before .before .before .before .before .before .pre .0 .1)
 
 same-length : tie.Need-same-length
 same-length c = search needs
@@ -50,7 +56,10 @@ same-length c = search needs
 returns-2 : tie.Need-returns-2
 returns-2 c =
     let a = c .before .before .before .before .before .before .before .before .before .before .before .before .before .before .before .before .args in
-    λ o left h. string-whole (a .text .now) o (a .at .0) (c .before .before .before .before .before .before .before .before .before .before .before .before .before .run-of .result .0) (c .before .before .before .before .before .before .before .before .before .before .before .before .run-of2 .result .0) (a .node .0) left (c .before .before .before .before .before .before .before .before .before .before .before .before .before .run-of .ensures) (c .before .before .before .before .before .before .before .before .before .before .before .before .run-of2 .ensures) (c .before .before .before .before .before .before .before .before .before .before .before .before .before .before .before .before .pre .0 .0) (sym (c .before .before .before .before .before .before .before .before .before .before .before .peek .ensures) ∙ c .before .before .before .before .before .before .before .before .before .before .if1 .left) (c .before .before .before .before .before .before .before .before .before .before .before .before .before .before .before .before .pre .0 .2) h (c .before .before .before .before .before .before .before .open-row .ensures) (c .before .before .before .close-row .ensures)
+    let r = c .before .before .before .before .before .before .before .before .before .before .before .before .before .run-of in
+    let q = c .before .before .before .before .before .before .before .before .before .before .before .before .run-of2 in
+    λ o left h. string-whole (a .text .now) o (a .at .0) (r .result .0) (q .result .0) (a .node .0) left (r .ensures) (q .ensures) (c .before .before .before .before .before .before .before .before .before .before .before .before .before .before .before .before .pre .0 .0) _ (add-one (q .result .0)) (add-one (a .node .0)) refl
+    (sym (c .before .before .before .before .before .before .before .before .before .before .before .peek .ensures) ∙ c .before .before .before .before .before .before .before .before .before .before .if1 .left) (c .before .before .before .before .before .before .before .before .before .before .before .before .before .before .before .before .pre .0 .2) h (c .before .before .before .before .before .before .before .open-row .ensures) (c .before .before .before .close-row .ensures)
 
 pub string-spec : {M : Type 1} → statement M
 string-spec =
