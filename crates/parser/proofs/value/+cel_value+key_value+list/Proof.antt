@@ -1,63 +1,56 @@
--- `cel_value`, `key_value`, `child` and `list` meet their contracts: the opener, the colon, the comma and the closer that the code finds are what the
--- machine does there, a child's reading goes into its list's, and the depth left falls from a value to its list. Assumes nothing.
+-- `cel_value`, `key_value` and `list` meet their contracts: the opener, the key, the comma and the closer that the code finds are what the machine
+-- does there, a child's reading goes into its list's, and the depth left falls from a value to its list. Assumes nothing.
 use mathlib.Core.Path.{_≡_, refl, sym, subst, _∙_}
 use Prim.Native.Nat.{ℕ, suc, _+_, _-_, _*_, _≤_, _<_}
 use native.Mathlib.Numerals.{add-one}
 use lib.ListN.{length}
-use Rattle.cel_text.specs.Byte.{Text, blank}
+use Rattle.cel_text.specs.Byte.{blank}
 use Rattle.cel_text.specs.Table.{Words}
 use Rattle.parser.specs.Kinds.{kindOf}
-use Rattle.parser.specs.Steps.{Ready, Entered, Opens, Coloned, WholeChild, ChildRead, Listed}
+use Rattle.parser.specs.Steps.{Entered, Opens, Keyed, Labels, WholeChild, Listed}
 use Rattle.parser.specs.declared.Step.{Step}
 use Rattle.parser.specs.declared.Step.the-variants.{Next, Refused}
 use Rattle.parser.specs.declared.value.Pass.{Pass}
-use Rattle.parser.specs.declared.value.Pass.the-variants.{Past}
+use Rattle.parser.specs.declared.value.Labelled.{Labelled}
 use Rattle.parser.proofs.Runs.{end-later, end-within}
-use Rattle.parser.proofs.Values.{name-bounds, value-barred}
-use Rattle.parser.proofs.Lists.{no-colon, entry-within, sofar-length, Due-child, Read-child, first-child, empty-list, child-read, comma-read, list-closed, neither-refused}
-use Rattle.parser.proofs.Handed.{string-up, list-up, list-from, end-again, entry-up, value-up, child-up, whole-by}
+use Rattle.parser.proofs.Values.{value-barred}
+use Rattle.parser.proofs.Lists.{sofar-length, Due-child, Read-child, first-child, empty-list, child-read, comma-read, list-closed, neither-refused}
+use Rattle.parser.proofs.Handed.{string-up, list-up, list-from, end-again, child-by, child-up, whole-by}
 use borrow.Fn.Kinds.{In}
 use borrow.Fn.PlainCycle.{Measures, is, falls, and}
 use Rattle.parser.proofs.value.cel_value.Reads as cel-value
 use Rattle.parser.proofs.value.cel_value.Kinds as cel-value-kinds
-use Rattle.parser.proofs.value.+cel_value+child+key_value+list.Lts-cel_value as cel-value-lts
-use Rattle.parser.proofs.value.child.Reads as child
-use Rattle.parser.proofs.value.child.Kinds as child-kinds
-use Rattle.parser.proofs.value.+cel_value+child+key_value+list.Lts-child as child-lts
+use Rattle.parser.proofs.value.+cel_value+key_value+list.Lts-cel_value as cel-value-lts
 use Rattle.parser.proofs.value.key_value.Reads as key-value
 use Rattle.parser.proofs.value.key_value.Kinds as key-value-kinds
-use Rattle.parser.proofs.value.+cel_value+child+key_value+list.Lts-key_value as key-value-lts
+use Rattle.parser.proofs.value.+cel_value+key_value+list.Lts-key_value as key-value-lts
 use Rattle.parser.proofs.value.list.Reads as list
 use Rattle.parser.proofs.value.list.Kinds as list-kinds
-use Rattle.parser.proofs.value.+cel_value+child+key_value+list.Lts-list as list-lts
+use Rattle.parser.proofs.value.+cel_value+key_value+list.Lts-list as list-lts
 use Rattle.parser.proofs.row.close_row.Reads as close-row-reads
 use Rattle.parser.proofs.row.open_row.Reads as open-row-reads
 use Rattle.parser.proofs.row.under.Reads as under-reads
 use Rattle.parser.proofs.scan.peek.Reads as peek-reads
 use Rattle.parser.proofs.scan.run_of.Reads as run-of-reads
-use Rattle.parser.proofs.scan.trimmed_ident.Reads as trimmed-ident-reads
 use Rattle.parser.proofs.value.closer_byte.Reads as closer-byte-reads
-use Rattle.parser.proofs.value.colon.Reads as colon-reads
 use Rattle.parser.proofs.value.deeper.Reads as deeper-reads
 use Rattle.parser.proofs.value.enter.Reads as enter-reads
+use Rattle.parser.proofs.value.label.Reads as label-reads
 use Rattle.parser.proofs.value.opening.Reads as opening-reads
 use Rattle.parser.proofs.value.string.Reads as string-reads
-use Rattle.parser.proofs.value.+cel_value+child+key_value+list.{statement}
-use Rattle.parser.proofs.value.+cel_value+child+key_value+list.Tie.{close}
+use Rattle.parser.proofs.value.+cel_value+key_value+list.{statement}
+use Rattle.parser.proofs.value.+cel_value+key_value+list.Tie.{close}
 use borrow.Author.Needs.{needs}
 use native.Mathlib.Omega.{arith}
 
 abbrev μ-cel-value : Measures 2 cel-value-kinds.ps ℕ
-μ-cel-value κs a = 4 * a .1 .1 .1 .1 .0
-
-abbrev μ-child : Measures 2 child-kinds.ps ℕ
-μ-child κs a = 4 * a .1 .1 .1 .1 .1 .0 + 2
+μ-cel-value κs a = 3 * a .1 .1 .1 .1 .0
 
 abbrev μ-key-value : Measures 2 key-value-kinds.ps ℕ
-μ-key-value κs a = 4 * a .1 .1 .1 .1 .0 + 1
+μ-key-value κs a = 3 * a .1 .1 .1 .1 .1 .0 + 1
 
 abbrev μ-list : Measures 2 list-kinds.ps ℕ
-μ-list κs a = 4 * a .1 .1 .1 .1 .1 .0 + 3
+μ-list κs a = 3 * a .1 .1 .1 .1 .1 .0 + 2
 
 abbrev cel-value-at : ℕ → In 2 cel-value-kinds.ps
 cel-value-at t = and 2 cel-value-kinds.ps (is 2 cel-value-kinds.ps μ-cel-value t) cel-value.Pre
@@ -65,12 +58,6 @@ cel-value-at t = and 2 cel-value-kinds.ps (is 2 cel-value-kinds.ps μ-cel-value 
 abbrev cel-value-below : ℕ → In 2 cel-value-kinds.ps
 cel-value-below t =
     and 2 cel-value-kinds.ps (falls 2 cel-value-kinds.ps _<_ μ-cel-value t) cel-value.Pre
-
-abbrev child-at : ℕ → In 2 child-kinds.ps
-child-at t = and 2 child-kinds.ps (is 2 child-kinds.ps μ-child t) child.Pre
-
-abbrev child-below : ℕ → In 2 child-kinds.ps
-child-below t = and 2 child-kinds.ps (falls 2 child-kinds.ps _<_ μ-child t) child.Pre
 
 abbrev key-value-at : ℕ → In 2 key-value-kinds.ps
 key-value-at t = and 2 key-value-kinds.ps (is 2 key-value-kinds.ps μ-key-value t) key-value.Pre
@@ -88,14 +75,11 @@ list-below t = and 2 list-kinds.ps (falls 2 list-kinds.ps _<_ μ-list t) list.Pr
 abbrev cel-value-claims : ℕ → cel-value-lts.Claims
 cel-value-claims t = (opening-reads.Asked, opening-reads.Learnt, enter-reads.Asked, enter-reads.Learnt, string-reads.Asked, string-reads.Learnt, open-row-reads.Asked, open-row-reads.Learnt, list-below t, list.Post)
 
-abbrev child-claims : ℕ → child-lts.Claims
-child-claims t = (key-value-below t, key-value.Post, cel-value-below t, cel-value.Post)
-
 abbrev key-value-claims : ℕ → key-value-lts.Claims
-key-value-claims t = (trimmed-ident-reads.Asked, trimmed-ident-reads.Learnt, colon-reads.Asked, colon-reads.Learnt, cel-value-below t, cel-value.Post)
+key-value-claims t = (label-reads.Asked, label-reads.Learnt, cel-value-below t, cel-value.Post)
 
 abbrev list-claims : ℕ → list-lts.Claims
-list-claims t = (closer-byte-reads.Asked, closer-byte-reads.Learnt, run-of-reads.Asked, run-of-reads.Learnt, peek-reads.Asked, peek-reads.Learnt, close-row-reads.Asked, close-row-reads.Learnt, under-reads.Asked, under-reads.Learnt, child-below t, child.Post, deeper-reads.Asked, deeper-reads.Learnt)
+list-claims t = (closer-byte-reads.Asked, closer-byte-reads.Learnt, run-of-reads.Asked, run-of-reads.Learnt, peek-reads.Asked, peek-reads.Learnt, close-row-reads.Asked, close-row-reads.Learnt, under-reads.Asked, under-reads.Learnt, key-value-below t, key-value.Post, deeper-reads.Asked, deeper-reads.Learnt)
 
 -- what `enter` found, where it let the opener pass
 cel-value-entered : (t : ℕ) (c : cel-value-lts.After-inner (cel-value-claims t) (cel-value-at t) cel-value.Post)
@@ -103,10 +87,10 @@ cel-value-entered : (t : ℕ) (c : cel-value-lts.After-inner (cel-value-claims t
 cel-value-entered t c =
     subst (λ (s : Pass). Opens (c .before .before .before .opening .result .kind) (c .before .before .before .opening .result .at .0) (c .before .before .before .before .before .before .args .node .0) (c .before .before .before .before .before .before .args .left) s) (c .inner .given .1) (c .before .before .enter .ensures)
 
--- the colon, where there is one
-key-value-coloned : (t : ℕ) (c : key-value-lts.After-start (key-value-claims t) (key-value-at t) key-value.Post)
-    → Coloned (c .before .before .before .before .before .before .args .text .now) (c .before .before .before .trimmed-ident .result .end .0) (Past (c .start .given .0 .0))
-key-value-coloned t c = subst (λ (s : Pass). Coloned (c .before .before .before .before .before .before .args .text .now) (c .before .before .before .trimmed-ident .result .end .0) s) (c .start .given .1) (c .before .before .colon .ensures)
+-- the key, where there is one or none is due
+key-value-keyed : (t : ℕ) (c : key-value-lts.After-key (key-value-claims t) (key-value-at t) key-value.Post)
+    → Keyed (c .before .before .before .before .before .args .text .now) (kindOf (c .before .before .before .before .before .args .kind)) (c .before .before .before .before .before .args .at .0) (c .key .given .0 .0)
+key-value-keyed t c = subst (λ (s : Labelled). Labels (c .before .before .before .before .before .args .text .now) (c .before .before .before .before .before .args .at .0) (kindOf (c .before .before .before .before .before .args .kind)) s) (c .key .given .1) (c .before .before .label .ensures)
 
 abbrev list-Inv-loop : list-lts.InvT-loop
 list-Inv-loop text table₀ node kind left close from₀ next₀ parent count₀ depth₀ table from next count depth = Due-child text table₀ table (from₀ .0) (node .0) (kindOf kind) left (from .0) (next .0) count depth
@@ -130,12 +114,12 @@ list-whole t c w s v =
 
 -- the child, where it was read
 list-child : (t : ℕ) (c : list-lts.After-step (list-claims t) (list-at t) list.Post list-Inv-loop list-μ-loop)
-    → WholeChild (kindOf (c .before .before .before .before .before .before .before .before .before .before .before .before .before .before .before .args .kind)) (c .before .before .before .before .before .before .before .before .before .before .before .before .before .before .before .args .text .now) (c .before .before .before .before .before .before .loop .table) (c .before .before .before .before .child .last .1 .0) (c .before .before .before .before .before .before .loop .from .0) (c .before .before .before .before .before .before .loop .next .0) (c .before .before .before .before .before .before .before .before .before .before .before .before .before .before .before .args .left) (c .before .before .before .before .before .before .before .under .result .0) (c .step .given .0 .0)
-list-child t c = whole-by (c .before .before .before .before .before .before .before .before .before .before .before .before .before .before .before .args .kind) (c .before .before .before .before .before .before .loop .inv) (c .before .before .before .before .child .last .1 .0) (c .before .before .before .before .before .before .before .under .result .0) (c .step .given .1) (c .before .before .before .before .child .ensures)
+    → WholeChild (kindOf (c .before .before .before .before .before .before .before .before .before .before .before .before .before .before .before .args .kind)) (c .before .before .before .before .before .before .before .before .before .before .before .before .before .before .before .args .text .now) (c .before .before .before .before .before .before .loop .table) (c .before .before .before .before .key-value .last .1 .0) (c .before .before .before .before .before .before .loop .from .0) (c .before .before .before .before .before .before .loop .next .0) (c .before .before .before .before .before .before .before .before .before .before .before .before .before .before .before .args .left) (c .before .before .before .before .before .before .before .under .result .0) (c .step .given .0 .0)
+list-child t c = whole-by (c .before .before .before .before .before .before .before .before .before .before .before .before .before .before .before .args .kind) (c .before .before .before .before .before .before .loop .inv) (c .before .before .before .before .key-value .last .1 .0) (c .before .before .before .before .before .before .before .under .result .0) (c .step .given .1) (c .before .before .before .before .key-value .ensures)
 
 -- the list with that child
 list-read : (t : ℕ) (c : list-lts.After-deeper (list-claims t) (list-at t) list.Post list-Inv-loop list-μ-loop)
-    → Read-child (c .before .before .before .before .before .before .before .before .before .before .before .before .before .before .before .before .before .before .args .text .now) (c .before .before .before .before .before .before .before .before .before .before .before .before .before .before .before .before .before .before .args .table .now) (c .before .before .before .before .before .before .before .child .last .1 .0) (c .before .before .before .before .before .before .before .before .before .before .before .before .before .before .run-of .result .0) (c .before .before .before .before .before .before .before .before .before .before .before .before .before .before .before .before .before .before .args .node .0) (kindOf (c .before .before .before .before .before .before .before .before .before .before .before .before .before .before .before .before .before .before .args .kind)) (c .before .before .before .before .before .before .before .before .before .before .before .before .before .before .before .before .before .before .args .left)
+    → Read-child (c .before .before .before .before .before .before .before .before .before .before .before .before .before .before .before .before .before .before .args .text .now) (c .before .before .before .before .before .before .before .before .before .before .before .before .before .before .before .before .before .before .args .table .now) (c .before .before .before .before .before .before .before .key-value .last .1 .0) (c .before .before .before .before .before .before .before .before .before .before .before .before .before .before .run-of .result .0) (c .before .before .before .before .before .before .before .before .before .before .before .before .before .before .before .before .before .before .args .node .0) (kindOf (c .before .before .before .before .before .before .before .before .before .before .before .before .before .before .before .before .before .before .args .kind)) (c .before .before .before .before .before .before .before .before .before .before .before .before .before .before .before .before .before .before .args .left)
     (c .before .before .before .step .given .0 .0 .end .0) (c .before .before .before .step .given .0 .0 .next .0) (c .before .before .before .before .before .before .before .before .before .loop .count + 1) (c .deeper .result)
 list-read t c = child-read (c .before .before .before .before .before .before .before .before .before .loop .inv) (c .before .before .before .before .before .before .before .before .before .before .under .ensures) (c .deeper .ensures) (list-child t (c .before .before .before))
 
@@ -145,7 +129,7 @@ list-stop t c = rw (c .run-of2 .ensures) (end-within blank (c .before .before .b
 
 -- the list after its comma: the invariant again
 list-comma : (t : ℕ) (c : list-lts.Else3 (list-claims t) (list-at t) list.Post list-Inv-loop list-μ-loop)
-    → Due-child (c .before .before .before .before .before .before .before .before .before .before .before .before .before .before .before .before .before .before .before .before .before .before .args .text .now) (c .before .before .before .before .before .before .before .before .before .before .before .before .before .before .before .before .before .before .before .before .before .before .args .table .now) (c .before .before .before .before .before .before .before .before .before .before .before .child .last .1 .0) (c .before .before .before .before .before .before .before .before .before .before .before .before .before .before .before .before .before .before .run-of .result .0) (c .before .before .before .before .before .before .before .before .before .before .before .before .before .before .before .before .before .before .before .before .before .before .args .node .0) (kindOf (c .before .before .before .before .before .before .before .before .before .before .before .before .before .before .before .before .before .before .before .before .before .before .args .kind)) (c .before .before .before .before .before .before .before .before .before .before .before .before .before .before .before .before .before .before .before .before .before .before .args .left)
+    → Due-child (c .before .before .before .before .before .before .before .before .before .before .before .before .before .before .before .before .before .before .before .before .before .before .args .text .now) (c .before .before .before .before .before .before .before .before .before .before .before .before .before .before .before .before .before .before .before .before .before .before .args .table .now) (c .before .before .before .before .before .before .before .before .before .before .before .key-value .last .1 .0) (c .before .before .before .before .before .before .before .before .before .before .before .before .before .before .before .before .before .before .run-of .result .0) (c .before .before .before .before .before .before .before .before .before .before .before .before .before .before .before .before .before .before .before .before .before .before .args .node .0) (kindOf (c .before .before .before .before .before .before .before .before .before .before .before .before .before .before .before .before .before .before .before .before .before .before .args .kind)) (c .before .before .before .before .before .before .before .before .before .before .before .before .before .before .before .before .before .before .before .before .before .before .args .left)
     (c .before .before .before .run-of2 .result .0 + 1) (c .before .before .before .before .before .before .before .step .given .0 .0 .next .0) (c .before .before .before .before .before .before .before .before .before .before .before .before .before .loop .count + 1) (c .before .before .before .before .deeper .result)
 list-comma t c = comma-read (list-read t (c .before .before .before .before)) (c .before .before .before .run-of2 .result .0) (c .before .before .before .run-of2 .ensures) (sym (c .before .before .peek2 .ensures) ∙ c .if3 .left)
 
@@ -223,77 +207,36 @@ cel-value-returns-3 t c =
     list-up (c .before .before .before .before .before .before .before .before .before .before .before .before .before .opening .ensures) (a .node .0) (a .left) e (a .keyfrom .0) (a .keyto .0) (a .parent .0) (a .table .now) (o .last .0) (l .last .1 .0) (a .left - 1)
     (c .before .before .before .before .before .before .before .before .if1 .left) h (o .ensures) (l .result) (l .ensures)
 
-child-key-value-requires : (t : ℕ) → child-lts.Need-key-value-requires (child-claims t) (child-at t) child.Post
-child-key-value-requires t c κs = (omega (arith, c .before .before .before .before .pre .0), c .before .before .before .before .pre .1)
+key-value-label-requires : (t : ℕ) → key-value-lts.Need-label-requires (key-value-claims t) (key-value-at t) key-value.Post
+key-value-label-requires t c κs = c .before .before .pre .1 .inside
 
-child-same-length : (t : ℕ) → child-lts.Need-same-length (child-claims t) (child-at t) child.Post
-child-same-length t c = c .before .before .key-value .kept .1 .0
+key-value-enum-known-key : (t : ℕ) → key-value-lts.Need-enum-known-key (key-value-claims t) (key-value-at t) key-value.Post
+key-value-enum-known-key t c = search needs
 
-child-returns : (t : ℕ) → child-lts.Need-returns (child-claims t) (child-at t) child.Post
-child-returns t c =
-    let a = c .before .before .before .before .before .before .before .args in
-    let k = c .before .before .key-value in
-    subst (λ (i : ℕ). ChildRead (kindOf i) (a .text .now) (a .table .now) (k .last .1 .0) (a .at .0) (a .node .0) (a .left) (a .parent .0) (k .result)) (sym (c .before .before .before .before .if1 .taken))
-    (k .ensures)
-
-child-cel-value-requires : (t : ℕ) → child-lts.Need-cel-value-requires (child-claims t) (child-at t) child.Post
-child-cel-value-requires t c κs = (omega (arith, c .before .before .before .before .pre .0), (c .before .before .before .before .pre .1, omega arith))
-
-child-same-length-2 : (t : ℕ) → child-lts.Need-same-length-2 (child-claims t) (child-at t) child.Post
-child-same-length-2 t c = c .before .before .cel-value .kept .1 .0
-
-child-returns-2 : (t : ℕ) → child-lts.Need-returns-2 (child-claims t) (child-at t) child.Post
-child-returns-2 t c =
-    let a = c .before .before .before .before .before .before .before .args in
-    let v = c .before .before .cel-value in
-    value-up (a .text .now) (a .table .now) (v .last .1 .0) (a .node .0) (a .left) (a .parent .0) (a .at .0) (a .kind) (c .before .before .before .before .if1 .left) (v .result) (v .ensures)
-
-key-value-trimmed-ident-requires : (t : ℕ) → key-value-lts.Need-trimmed-ident-requires (key-value-claims t) (key-value-at t) key-value.Post
-key-value-trimmed-ident-requires t c κs = search needs
-
-key-value-colon-requires : (t : ℕ) → key-value-lts.Need-colon-requires (key-value-claims t) (key-value-at t) key-value.Post
-key-value-colon-requires t c κs = name-bounds (c .before .before .before .args .text .now) (c .trimmed-ident .ensures) (c .before .before .before .pre .1 .inside) .within
-
-key-value-enum-known-start : (t : ℕ) → key-value-lts.Need-enum-known-start (key-value-claims t) (key-value-at t) key-value.Post
-key-value-enum-known-start t c = search needs
+key-value-cel-value-requires : (t : ℕ) → key-value-lts.Need-cel-value-requires (key-value-claims t) (key-value-at t) key-value.Post
+key-value-cel-value-requires t c κs =
+    let l = key-value-keyed t (c .before .before) in
+    let y = c .before .before .before .before .before .before .before .pre in (
+      omega (arith, y .0),
+      (record { short = y .1 .short; inside = l .within; counted = y .1 .counted; few = y .1 .few; fewLeft = y .1 .fewLeft }, omega (arith, l, y .1)),
+    )
 
 key-value-enum-known-refusal : (t : ℕ) → key-value-lts.Need-enum-known-refusal (key-value-claims t) (key-value-at t) key-value.Post
 key-value-enum-known-refusal t c = search needs
 
-key-value-returns : (t : ℕ) → key-value-lts.Need-returns (key-value-claims t) (key-value-at t) key-value.Post
-key-value-returns t c =
-    let a = c .before .before .before .before .before .before .before .args in
-    let k = c .before .before .before .before .trimmed-ident in
-    let s = subst (λ (s : Pass). Coloned (a .text .now) (k .result .end .0) s) (c .before .refusal .given .1) (c .before .before .before .colon .ensures) in
-    no-colon (k .ensures) (c .before .before .before .before .before .before .before .pre .1 .inside) (a .node .0) (a .left) (s .0) (s .1) (s .2)
-
-key-value-cel-value-requires : (t : ℕ) → key-value-lts.Need-cel-value-requires (key-value-claims t) (key-value-at t) key-value.Post
-key-value-cel-value-requires t c κs =
-    let s = key-value-coloned t (c .before .before) in
-    let y = c .before .before .before .before .before .before .before .before .pre in
-    let b = name-bounds (c .before .before .before .before .before .before .before .before .args .text .now) (c .before .before .before .before .before .trimmed-ident .ensures) (y .1 .inside) in (
-      omega (arith, y .0),
-      (
-        record {
-          short = y .1 .short;
-          inside = entry-within (c .before .before .before .before .before .trimmed-ident .ensures) (y .1 .inside) (c .before .before .before .before .before .before .before .before .args .node .0) (c .before .before .before .before .before .before .before .before .args .left) (s .0) (s .1);
-          counted = y .1 .counted;
-          few = y .1 .few;
-          fewLeft = y .1 .fewLeft;
-        },
-        omega (arith, b, y .1),
-      ),
-    )
-
 key-value-same-length : (t : ℕ) → key-value-lts.Need-same-length (key-value-claims t) (key-value-at t) key-value.Post
 key-value-same-length t c = c .before .before .cel-value .kept .1 .0
 
+key-value-returns : (t : ℕ) → key-value-lts.Need-returns (key-value-claims t) (key-value-at t) key-value.Post
+key-value-returns t c =
+    let a = c .before .before .before .before .before .before .before .before .before .before .args in
+    let v = c .before .before .cel-value in
+    child-by (key-value-keyed t (c .before .before .before .before .before)) (a .table .now) (v .last .1 .0) (a .node .0) (a .left) (a .parent .0) (v .result) (v .ensures)
+
 key-value-returns-2 : (t : ℕ) → key-value-lts.Need-returns-2 (key-value-claims t) (key-value-at t) key-value.Post
 key-value-returns-2 t c =
-    let a = c .before .before .before .before .before .before .before .before .before .before .before .args in
-    let s = key-value-coloned t (c .before .before .before .before .before) in
-    let v = c .before .before .cel-value in
-    entry-up (a .text .now) (a .table .now) (v .last .1 .0) (a .node .0) (a .left) (a .parent .0) (c .before .before .before .before .before .before .before .before .trimmed-ident .ensures) (c .before .before .before .before .before .before .before .before .before .before .before .pre .1 .inside) (s .0) (s .1) (v .result) (v .ensures)
+    let a = c .before .before .before .before .before .before .args in
+    subst (λ (s : Labelled). Labels (a .text .now) (a .at .0) (kindOf (a .kind)) s) (c .before .refusal .given .1) (c .before .before .before .label .ensures) (a .node .0) (a .left)
 
 list-closer-byte-requires : (t : ℕ) → list-lts.Need-closer-byte-requires (list-claims t) (list-at t) list.Post list-Inv-loop list-μ-loop
 list-closer-byte-requires t c κs = search needs
@@ -332,8 +275,8 @@ list-loop-holds t c =
     first-child (end-again (a .text .now) (a .at .0) (r .result .0) (r .ensures)) (list-first t (c .before .before .before .before)) (c .before .before .before .before .before .before .before .before .pre .1 .few)
     (λ e. c .before .if1 .left (c .before .before .peek .ensures ∙ e ∙ sym (c .before .before .before .before .before .closer-byte .ensures)))
 
-list-child-requires : (t : ℕ) → list-lts.Need-child-requires (list-claims t) (list-at t) list.Post list-Inv-loop list-μ-loop
-list-child-requires t c κs =
+list-key-value-requires : (t : ℕ) → list-lts.Need-key-value-requires (list-claims t) (list-at t) list.Post list-Inv-loop list-μ-loop
+list-key-value-requires t c κs =
     let l = c .before .loop .inv in
     let y = c .before .before .before .before .before .before .before .before .before .before .pre in
     (omega (arith, y .0), record { short = y .1 .short; inside = l .within; counted = sofar-length l ∙ y .1 .counted; few = l .room; fewLeft = y .1 .fewLeft })
@@ -345,11 +288,11 @@ list-enum-told : (t : ℕ) → list-lts.Need-enum-told (list-claims t) (list-at 
 list-enum-told t c = search needs
 
 list-same-length-2 : (t : ℕ) → list-lts.Need-same-length-2 (list-claims t) (list-at t) list.Post list-Inv-loop list-μ-loop
-list-same-length-2 t c = c .before .before .before .before .child .kept .1 .0 ∙ sofar-length (c .before .before .before .before .before .before .loop .inv)
+list-same-length-2 t c = c .before .before .before .before .key-value .kept .1 .0 ∙ sofar-length (c .before .before .before .before .before .before .loop .inv)
 
 list-returns-2 : (t : ℕ) → list-lts.Need-returns-2 (list-claims t) (list-at t) list.Post list-Inv-loop list-μ-loop
 list-returns-2 t c =
-    let v = c .before .before .before .before .child in
+    let v = c .before .before .before .before .key-value in
     list-whole t (c .before .before .before .before .before .before .before .before .before .before .before) (v .last .1 .0) (v .result) (child-up (c .before .before .before .before .before .before .before .before .before .before .before .before .before .before .before .args .kind) (c .before .before .before .before .before .before .loop .inv) (v .last .1 .0) (c .before .before .before .before .before .before .before .under .result .0) (v .last .1 .0) (c .enum-told .given .1) (v .ensures))
 
 list-add-count : (t : ℕ) → list-lts.Need-add-count (list-claims t) (list-at t) list.Post list-Inv-loop list-μ-loop
@@ -367,7 +310,7 @@ list-peek-requires-2 t c κs = search needs
 list-close-row-requires-2 : (t : ℕ) → list-lts.Need-close-row-requires-2 (list-claims t) (list-at t) list.Post list-Inv-loop list-μ-loop
 list-close-row-requires-2 t c κs =
     let r = list-read t (c .before .before .before .before) in
-    let k = c .before .before .before .before .before .before .before .before .before .before .before .child .kept .1 .0 ∙ sofar-length (c .before .before .before .before .before .before .before .before .before .before .before .before .before .loop .inv) ∙ c .before .before .before .before .before .before .before .before .before .before .before .before .before .before .before .before .before .before .before .before .before .before .pre .1 .counted in
+    let k = c .before .before .before .before .before .before .before .before .before .before .before .key-value .kept .1 .0 ∙ sofar-length (c .before .before .before .before .before .before .before .before .before .before .before .before .before .loop .inv) ∙ c .before .before .before .before .before .before .before .before .before .before .before .before .before .before .before .before .before .before .before .before .before .before .pre .1 .counted in
     omega (arith, c .before .before .before .before .before .before .before .before .before .before .before .before .before .before .before .before .before .before .before .before .before .before .pre .1 .few, k, r .room, r .fewer)
 
 list-add-t34 : (t : ℕ) → list-lts.Need-add-t34 (list-claims t) (list-at t) list.Post list-Inv-loop list-μ-loop
@@ -379,7 +322,7 @@ list-add-t36 t c =
     omega (arith, r .shallow, c .before .before .before .before .before .before .before .before .before .before .before .before .before .before .before .before .before .before .before .before .before .before .before .before .before .before .pre .1 .fewLeft)
 
 list-same-length-3 : (t : ℕ) → list-lts.Need-same-length-3 (list-claims t) (list-at t) list.Post list-Inv-loop list-μ-loop
-list-same-length-3 t c = c .before .before .before .close-row2 .kept .0 ∙ c .before .before .before .before .before .before .before .before .before .before .before .before .before .before .before .child .kept .1 .0 ∙ sofar-length (c .before .before .before .before .before .before .before .before .before .before .before .before .before .before .before .before .before .loop .inv)
+list-same-length-3 t c = c .before .before .before .close-row2 .kept .0 ∙ c .before .before .before .before .before .before .before .before .before .before .before .before .before .before .before .key-value .kept .1 .0 ∙ sofar-length (c .before .before .before .before .before .before .before .before .before .before .before .before .before .before .before .before .before .loop .inv)
 
 list-returns-3 : (t : ℕ) → list-lts.Need-returns-3 (list-claims t) (list-at t) list.Post list-Inv-loop list-μ-loop
 list-returns-3 t c =
@@ -389,13 +332,13 @@ list-returns-3 t c =
     (sym (c .before .before .before .before .before .before .peek2 .ensures) ∙ c .before .before .before .before .before .if2 .taken ∙ c .before .before .before .before .before .before .before .before .before .before .before .before .before .before .before .before .before .before .before .before .before .before .before .closer-byte .ensures) (c .before .before .before .close-row2 .ensures))
 
 list-same-length-4 : (t : ℕ) → list-lts.Need-same-length-4 (list-claims t) (list-at t) list.Post list-Inv-loop list-μ-loop
-list-same-length-4 t c = c .before .before .before .before .before .before .before .before .before .before .before .child .kept .1 .0 ∙ sofar-length (c .before .before .before .before .before .before .before .before .before .before .before .before .before .loop .inv)
+list-same-length-4 t c = c .before .before .before .before .before .before .before .before .before .before .before .key-value .kept .1 .0 ∙ sofar-length (c .before .before .before .before .before .before .before .before .before .before .before .before .before .loop .inv)
 
 list-returns-4 : (t : ℕ) → list-lts.Need-returns-4 (list-claims t) (list-at t) list.Post list-Inv-loop list-μ-loop
 list-returns-4 t c =
     let r = c .before .before .before .run-of2 in
     let b = c .before .before .peek2 .ensures in
-    list-whole t (c .before .before .before .before .before .before .before .before .before .before .before .before .before .before .before .before .before .before) (c .before .before .before .before .before .before .before .before .before .before .before .child .last .1 .0) (Refused 4 _)
+    list-whole t (c .before .before .before .before .before .before .before .before .before .before .before .before .before .before .before .before .before .before) (c .before .before .before .before .before .before .before .before .before .before .before .key-value .last .1 .0) (Refused 4 _)
     (neither-refused (list-read t (c .before .before .before .before)) (r .result .0) (r .ensures) (λ e. c .before .if2 .left (b ∙ e ∙ sym (c .before .before .before .before .before .before .before .before .before .before .before .before .before .before .before .before .before .before .before .closer-byte .ensures))) (λ e. c .if3 .taken (b ∙ e)))
 
 list-add-t38 : (t : ℕ) → list-lts.Need-add-t38 (list-claims t) (list-at t) list.Post list-Inv-loop list-μ-loop
@@ -411,9 +354,8 @@ list-loop-less t c =
 list-loop-again : (t : ℕ) → list-lts.Need-loop-again (list-claims t) (list-at t) list.Post list-Inv-loop list-μ-loop
 list-loop-again t c = list-comma t (c .before)
 
-pub +cel-value+child+key-value+list-spec : {M : Type 1} → statement M
-+cel-value+child+key-value+list-spec =
-    close μ-cel-value μ-child μ-key-value μ-list (λ t. cel-value-lts.spec (cel-value-claims t)
+pub +cel-value+key-value+list-spec : {M : Type 1} → statement M
++cel-value+key-value+list-spec = close μ-cel-value μ-key-value μ-list (λ t. cel-value-lts.spec (cel-value-claims t)
     (cel-value-at t)
     cel-value.Post
     (cel-value-opening-requires t)
@@ -429,26 +371,15 @@ pub +cel-value+child+key-value+list-spec : {M : Type 1} → statement M
     (cel-value-list-requires t)
     (cel-value-same-length-2 t)
     (cel-value-returns-3 t))
-    (λ t. child-lts.spec
-    (child-claims t)
-    (child-at t)
-    child.Post
-    (child-key-value-requires t)
-    (child-same-length t)
-    (child-returns t)
-    (child-cel-value-requires t)
-    (child-same-length-2 t)
-    (child-returns-2 t))
     (λ t. key-value-lts.spec (key-value-claims t)
     (key-value-at t)
     key-value.Post
-    (key-value-trimmed-ident-requires t)
-    (key-value-colon-requires t)
-    (key-value-enum-known-start t)
-    (key-value-enum-known-refusal t)
-    (key-value-returns t)
+    (key-value-label-requires t)
+    (key-value-enum-known-key t)
     (key-value-cel-value-requires t)
+    (key-value-enum-known-refusal t)
     (key-value-same-length t)
+    (key-value-returns t)
     (key-value-returns-2 t))
     λ t. list-lts.spec (list-claims t)
     (list-at t)
@@ -465,7 +396,7 @@ pub +cel-value+child+key-value+list-spec : {M : Type 1} → statement M
     (list-returns t)
     (list-under-requires t)
     (list-loop-holds t)
-    (list-child-requires t)
+    (list-key-value-requires t)
     (list-enum-known-step t)
     (list-enum-told t)
     (list-same-length-2 t)
