@@ -45,15 +45,11 @@ entry c =
     let s = b4 .before .before .before .before .before .before in
     row-read (c .read-row2 .ensures) (room (s .args .table .now) (s .args .text .now) (b4 .loop .next .0) (kid (c .before) .is))
 
-falling : (c : tie.After-next Inv-loop μ-loop)
-    → let l = c .before .before .before .before .before in
-    let end = c .before .before .before .before .before .before .before .before .read-row .result .past .0 in
-    end - c .before .read-row2 .result .past .0 < end - l .loop .next .0
-falling c =
-    let s = c .before .before .before .before .before .before .before .before .before .before .before in
-    let l = c .before .before .before .before .before in
-    let i = c .before .before in
-    omega (arith, entry (c .before) .past, later (s .args .table .now) (s .args .text .now) (l .loop .next .0) (kid i .is), i .if1 .taken)
+onward : (c : tie.After-read-row2 Inv-loop μ-loop) → c .before .before .before .before .loop .next .0 < c .read-row2 .result .past .0
+onward c =
+    let s = c .before .before .before .before .before .before .before .before .before .before in
+    let l = c .before .before .before .before in
+    omega (arith, entry c .past, later (s .args .table .now) (s .args .text .now) (l .loop .next .0) (kid (c .before) .is))
 
 keyed : (c : tie.After-is-name-at Inv-loop μ-loop)
     → let s = c .before .before .before .before .before .before .before .before .before .before .before .before in
@@ -85,7 +81,7 @@ is-name-at-requires c κs =
     (le-as (r .keyfrom) (r .keyto) (k .ordered), le-as (r .keyto) refl (k .inside))
 
 loop-less : tie.Need-loop-less Inv-loop μ-loop
-loop-less c = falling (c .before .before)
+loop-less c = omega (arith, onward (c .before .before .before), c .before .before .before .before .if1 .taken)
 
 loop-again : tie.Need-loop-again Inv-loop μ-loop
 loop-again c =
@@ -98,7 +94,7 @@ loop-again c =
     (hit (s .args .table .now) (s .args .text .now) n (s .pre) (s .args .name) (passed l) (more b4) (k .is-name-at .result) (keyed k) (l .loop .next) refl (c .if2 .taken))
 
 loop-less-2 : tie.Need-loop-less-2 Inv-loop μ-loop
-loop-less-2 c = falling (c .before .before)
+loop-less-2 c = omega (arith, onward (c .before .before .before), c .before .before .before .before .if1 .taken)
 
 loop-again-2 : tie.Need-loop-again-2 Inv-loop μ-loop
 loop-again-2 c =
