@@ -24,9 +24,6 @@ turn-past h = omega arith
 pub turn-later : {i n : ℕ} → i ≤ n → i ≤ n + 1
 turn-later h = omega arith
 
-pub none-between : {i n : ℕ} → n ≤ i → i < n → ⊥
-none-between h k = omega arith
-
 -- node i's number, and the next
 pub fits-node : {i : ℕ} → i < maxNodes → Fits w64 (i + 1)
 fits-node h = record { fits = omega arith }

@@ -8,12 +8,12 @@ use lib.ListN.{length}
 use lib.Seq.{slice}
 use borrow.Author.Tests.{eqb-false}
 use Rattle.cel_text.specs.Byte.{Text}
-use Rattle.cel_text.specs.Tree.{Kind, array, object, function}
+use Rattle.cel_text.specs.Tree.{array, object, function}
 use Rattle.cel_text.specs.Reading.{maxNodes}
 use Rattle.cel_text.specs.Table.{Words, rowWords, kindNumber, stringKind, word}
 use Rattle.cel_policy.specs.Policy.{Span}
-use Rattle.cel_policy.specs.Mapping.{Node, leaf, branch, Nodes, childless, _▹_∶_, Refusal, Mapped, good, bad, andThen, unexpectedType, element, elements, stringArray}
-use Rattle.cel_policy.specs.Laws.Counts.{size, sizes}
+use Rattle.cel_policy.specs.Mapping.{Node, leaf, branch, Nodes, childless, _▹_∶_, Refusal, good, bad, unexpectedType, element, elements, stringArray}
+use Rattle.cel_policy.specs.Laws.Counts.{sizes}
 use Rattle.ast_mapping.specs.View.{spanOf, spansFrom, stringsOf, nodeAt, number, children, Stands, Held, Tabled}
 use Rattle.ast_mapping.proofs.View.{no-string, Begins, all, less, begins-none, past, within, later, Child, next-child, last-child}
 
@@ -32,8 +32,8 @@ module _ (a k : ℕ) where
   row-last : {end : ℕ} → a + suc k ≤ end → a + k < end
   row-last h = omega arith
 
-  row-inside : (a ≤ a + k) × (a + k < a + suc k)
-  row-inside = (omega arith, omega arith)
+  row-between : (a ≤ a + k) × (a + k < a + suc k)
+  row-between = (omega arith, omega arith)
 
   row-counted : {m : ℕ} → m ≡ k → (a + k ≡ a + m) × (m + 1 ≡ suc k)
   row-counted e = (omega arith, omega arith)
@@ -106,13 +106,13 @@ module _ (w : Words) (x : Text) where
         count : sizes before ≡ k
         are : elements name before ≡ good (spansFrom w (suc n) k)
 
-      strings : (k : ℕ) → suc n + k ≤ word w n 7 → ((i : ℕ) → suc n ≤ i → i < suc n + k → word w i 0 ≡ stringKind) → Strings k
+      passed-strings : (k : ℕ) → suc n + k ≤ word w n 7 → ((i : ℕ) → suc n ≤ i → i < suc n + k → word w i 0 ≡ stringKind) → Strings k
       unfolding elements element
-      strings zero l k = record { before = childless; begins = begins-none (children (nodeAt w x n)); count = refl; are = refl }
-      strings (suc k) l all-strings =
-          let s : Strings k = strings k (rows-less (suc n) k l) (λ i a b. all-strings i a (rows-more (suc n) k b)) in
+      passed-strings zero l k = record { before = childless; begins = begins-none (children (nodeAt w x n)); count = refl; are = refl }
+      passed-strings (suc k) l all-strings =
+          let s : Strings k = passed-strings k (rows-less (suc n) k l) (λ i a b. all-strings i a (rows-more (suc n) k b)) in
           let c : Child w x n h (s .before) (suc n + k) = next-child w x n h (s .begins) (row-counted (suc n) k (s .count) .0) (row-last (suc n) k l) in
-          let here : nodeAt w x (suc n + k) ≡ leaf (suc n + k) (spanOf w (suc n + k)) = string-at (suc n + k) (c .is) (all-strings (suc n + k) (row-inside (suc n) k .0) (row-inside (suc n) k .1)) in
+          let here : nodeAt w x (suc n + k) ≡ leaf (suc n + k) (spanOf w (suc n + k)) = string-at (suc n + k) (c .is) (all-strings (suc n + k) (row-between (suc n) k .0) (row-between (suc n) k .1)) in
           record {
             before = s .before ▹ slice (word w (suc n + k) 3) (word w (suc n + k) 4) x ∶ nodeAt w x (suc n + k);
             begins = c .begins;
@@ -123,7 +123,7 @@ module _ (w : Words) (x : Text) where
       -- all elements from the first up to number `next` are strings
       module _ (kind : word w n 0 ≡ kindNumber array) (next : ℕ) (first : suc n ≤ next) (are : (i : ℕ) → suc n ≤ i → i < next → word w i 0 ≡ stringKind) where
         passed : next ≤ word w n 7 → Strings (next - suc n)
-        passed l = strings (next - suc n) (omega arith) (λ i a b. are i a (omega arith))
+        passed l = passed-strings (next - suc n) (omega arith) (λ i a b. are i a (omega arith))
 
         -- and there are no more
         pub all-strings : next ≡ word w n 7 → good (stringsOf w n) ≡ stringArray name (nodeAt w x n)

@@ -1,24 +1,14 @@
 -- Comparing two texts byte by byte. Assumes nothing.
-use mathlib.Core.Path.{_≡_, refl, sym, ap, _∙_}
-use Prim.Native.Nat.{ℕ, zero, suc, _-_, _≤_, _<_}
-use native.Mathlib.Nat.{sub-zero, zero-sub, suc-sub-suc}
+use mathlib.Core.Path.{_≡_, refl, ap}
+use Prim.Native.Nat.{ℕ, zero, suc, _≤_, _<_}
 use native.Mathlib.Omega.{arith}
-use mathlib.Core.Bool.{Bool, true, false, _&&_, cond}
-use mathlib.Core.List.{List, [], _∷_}
-use lib.ListN.{length, take, drop, getD, drop-of-length-le, List·getD-eq-default}
-use lib.Seq.{drop-cons, slice, take-nil}
+use mathlib.Core.Bool.{Bool, true, false, _&&_, and-false}
+use mathlib.Core.List.{[], _∷_}
+use lib.ListN.{length, drop, getD, drop-of-length-le, List·getD-eq-default}
+use lib.Seq.{drop-cons}
 use lib.Dec.{eqb, eqb·suc-zero}
-use borrow.Author.Tests.{eq-eqb, ne-eqb}
 use Rattle.cel_text.specs.Byte.{Text}
 use Rattle.cel_policy.specs.Names.{same, spelling, spellings}
-
-pub and-true : (a : Bool) → a && true ≡ a
-and-true true = refl
-and-true false = refl
-
-pub and-false : (a : Bool) → a && false ≡ false
-and-false true = refl
-and-false false = refl
 
 -- texts of different lengths differ
 pub same-lengths : (a b : Text) → (length a ≡ length b → ⊥) → same a b ≡ false
@@ -31,10 +21,6 @@ same-lengths (a ∷ more) (b ∷ bs) h = rw (same-lengths more bs (λ e. h (ap s
 pub same-step : (a b : Text) (i : ℕ) → i < length a → i < length b
     → same (drop i a) (drop i b) ≡ eqb (getD a i 0) (getD b i 0) && same (drop (suc i) a) (drop (suc i) b)
 same-step a b i ha hb = rw (drop-cons a i 0 ha, drop-cons b i 0 hb)
-
-pub and-assoc : (a b c : Bool) → a && (b && c) ≡ a && b && c
-and-assoc true b c = refl
-and-assoc false b c = refl
 
 -- none is left
 pub same-end : (a b : Text) (i : ℕ) (so : Bool) → length a ≤ i → length b ≤ i → so && same (drop i a) (drop i b) ≡ so

@@ -2,7 +2,6 @@
 use mathlib.Core.Path.{_≡_, refl, sym, ap, subst, _∙_}
 use Prim.Native.Nat.{ℕ, _<_}
 use native.Mathlib.Omega.{arith}
-use mathlib.Core.List.{List}
 use lib.Dec.{lit<}
 use Rattle.cel_text.specs.Byte.{Text}
 use Rattle.cel_text.specs.Tree.{object}
@@ -11,11 +10,13 @@ use Rattle.cel_text.specs.Table.{Words, word}
 use Rattle.cel_text.specs.Laws.Limit.{clash}
 use Rattle.cel_policy.specs.Names.{ValidationArgs, Certification, RequestCertification}
 use Rattle.cel_policy.specs.Policy.{Span}
-use Rattle.cel_policy.specs.Mapping.{Node, Nodes, childless, _▹_∶_, Refusal, good, bad, andThen, exactlyOne, typed, lookup, present, headersOf, listOf, responseLists, responsePart, listAt, requestLists, requestOf, requestPart, certified, certificationParts, certificationOf, validationArgs, firstOf, firstChild, mapping}
+use Rattle.cel_policy.specs.Mapping.{Node, Nodes, childless, _▹_∶_, Refusal, good, bad, andThen, exactlyOne, typed, lookup, present, headersOf, listOf, responseLists, responsePart}
+use Rattle.cel_policy.specs.Mapping.{listAt, requestLists, requestOf, requestPart, certified, certificationParts, certificationOf, validationArgs, firstOf, firstChild, mapping}
 use Rattle.cel_policy.specs.Laws.Natural.{overMapped, overOnly}
 use Rattle.parser.specs.declared.Node.{Node as Numbered}
 use Rattle.ast_mapping.specs.View.{stringsOf, nodeAt, children, typedAt, Held, Tabled}
-use Rattle.ast_mapping.specs.Steps.{foundAs, numbered, FoundIf, OnlyIf, Looked, refusalTold, fieldsUsed, Small, Checked, ListChecked, onlyAs, Listing, HeadersFound, Requested, Responded, requestAs, RequestIn, certifiedAs, mappedAs, MappedIn, Maps}
+use Rattle.ast_mapping.specs.Steps.{foundAs, numbered, FoundIf, OnlyIf, Looked, refusalTold, fieldsUsed, SmallNode, Checked, ListChecked, onlyAs, Listing, HeadersFound}
+use Rattle.ast_mapping.specs.Steps.{Requested, Responded, requestAs, RequestIn, certifiedAs, mappedAs, MappedIn, Maps}
 use Rattle.ast_mapping.specs.declared.row.Found.{Found}
 use Rattle.ast_mapping.specs.declared.row.Found.the-variants.{At, Nothing}
 use Rattle.ast_mapping.specs.declared.mapping.Refusal.{Refusal as Told}
@@ -35,7 +36,7 @@ use Rattle.ast_mapping.proofs.Lists.{tabled}
 -- ---- refusals
 
 -- the node of a refusal that was told
-pub small-of : {r : Told} {f : Refusal} → refusalTold r ≡ f → f .node < maxNodes → Small r
+pub small-of : {r : Told} {f : Refusal} → refusalTold r ≡ f → f .node < maxNodes → SmallNode r
 small-of e = subst (λ (n : ℕ). n < maxNodes) (sym (ap (λ (f : Refusal). f .node) e))
 
 -- ---- exactly one

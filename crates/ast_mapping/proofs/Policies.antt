@@ -9,7 +9,7 @@ use lib.ListN.{length, take, drop, replicate, length-append, drop-of-length-le, 
 use lib.Seq.{sets, sets-eq, length-sets, length-take-le, take-all, take-at, drop-at, drop-append-le}
 use lib.Dec.{ltb}
 use borrow.Author.Tests.{lt-ltb, le-ltb, ne-eqb, le-leb}
-use Rattle.cel_text.specs.Byte.{Text, stringByte, ascii, lead}
+use Rattle.cel_text.specs.Byte.{Text, ascii, lead}
 use Rattle.cel_text.specs.Tree.{Tree}
 use Rattle.cel_text.specs.Reading.{syntax, tooDeep, tooMany, Outcome, accepted, refused, read, limits, maxNodes}
 use Rattle.cel_text.specs.Table.{Words, Left, untouched, cleared, filled, rows, hold, holdOver, nodesLeft, nodeWords}
@@ -24,6 +24,7 @@ use Rattle.cel_policy.specs.Laws.Shape.{Shape, skips, certifies}
 use Rattle.cel_policy.specs.Laws.Counts.{size, Meets, OfMapping, meets-mapping}
 use Rattle.cel_policy.specs.Laws.SpanTable.{length-spanRows}
 use Rattle.parser.specs.Found.{told}
+use Rattle.parser.specs.Set.{stringSet}
 use Rattle.parser.specs.declared.Answer.{Answer}
 use Rattle.parser.proofs.Answers.{clearedFrom, clear-all}
 use Rattle.ast_mapping.specs.declared.PolicyAnswer.{PolicyAnswer as Told-answer}
@@ -36,21 +37,21 @@ use Rattle.ast_mapping.proofs.Written.{Rooted, rooted}
 module _ (w : ℕ) (x : Text) where
   -- a tree is what the text reads as; a fault has a number of 1 to 6
   abbrev Right : Found → Type 0
-  Right (tree t q) = read stringByte limits x ≡ accepted t q
+  Right (tree t q) = read stringSet limits x ≡ accepted t q
   Right (fault r p) = (1 ≤ r) × (r ≤ 6)
 
-  right-outcome : (o : Outcome) → read stringByte limits x ≡ o → Right (found o)
+  right-outcome : (o : Outcome) → read stringSet limits x ≡ o → Right (found o)
   right-outcome (accepted t q) e = e
   right-outcome (refused syntax p) e = omega arith
   right-outcome (refused tooDeep p) e = omega arith
   right-outcome (refused tooMany p) e = omega arith
 
-  right : Right (findTree stringByte w x)
+  right : Right (findTree stringSet w x)
   right =
       by-test Right (ltb w nodeWords) _ _ (λ e. omega arith) (λ e.
       by-test Right (ltb maxText (length x)) _ _ (λ e. omega arith) (λ e.
       by-test Right (ltb (lead ascii x) (length x)) _ _ (λ e. omega arith) (λ e.
-      right-outcome (read stringByte limits x) refl)))
+      right-outcome (read stringSet limits x) refl)))
 
 -- ---- what the mapping can give
 
@@ -204,8 +205,8 @@ module _ (holding : Left → ℕ → Words → Words → Words) (end : Counted �
     abbrev pub Ensured : (nodes′ spans′ : Words) → Told-answer → Type 0
     Ensured nodes′ spans′ r =
         (policyTold r ≡ policyAnswer (length nodes) (length spans) x)
-        × ((nodes′ ≡ nodesHeld holding (findPolicy stringByte (length nodes) (length spans) x) nodes)
-        × (spans′ ≡ spansHeld holding (findPolicy stringByte (length nodes) (length spans) x) spans))
+        × ((nodes′ ≡ nodesHeld holding (findPolicy stringSet (length nodes) (length spans) x) nodes)
+        × (spans′ ≡ spansHeld holding (findPolicy stringSet (length nodes) (length spans) x) spans))
 
     pub ensured-short : {r : Told-answer} → length spans < spanWords → policyTold r ≡ policyAnswered (unread 1 0) → Ensured nodes spans r
     unfolding policyAnswer
@@ -216,7 +217,7 @@ module _ (holding : Left → ℕ → Words → Words → Words) (end : Counted �
     record Reads (f : Found) (nodes′ spans′ : Words) (r : Told-answer) : Type 0 where
       answer : policyTold r ≡ policyAnswered (mapTree x f)
       table : nodes′ ≡ nodesHeld holding (mapTree x f) nodes
-      strings : spans′ ≡ spansHeld holding (mapTree x f) spans
+      spanned : spans′ ≡ spansHeld holding (mapTree x f) spans
 
     module _ (long : spanWords ≤ length spans) (a : Answer) (nodes′ : Words) where
       -- the counted words of the span table
@@ -236,7 +237,7 @@ module _ (holding : Left → ℕ → Words → Words → Words) (end : Counted �
           record {
             answer = f .0 ∙ ap (λ (b : TreeAnswer). record { answer = b; policy = noPolicy }) e;
             table = k;
-            strings =
+            spanned =
                 rw (f .1, same, spare-kept (spansLeft n) (left-unfilled n h) front front-long (end (numbers (r .policy))))
                 (way .front (spansLeft n) spanWords [] spans (omega arith) long);
           }
@@ -253,20 +254,20 @@ module _ (holding : Left → ℕ → Words → Words → Words) (end : Counted �
           record {
             answer = told-answer ∙ settled-answer t q m ∙ ap (λ (n : Mapped (Policy Span)). policyAnswered (judged t n)) is;
             table = k ∙ settled-nodes t m h nodes ∙ ap (λ (n : Mapped (Policy Span)). nodesHeld holding (judged t n) nodes) is;
-            strings =
+            spanned =
                 rw (s .rows, number, counts, settled-spans t q m h few front front-long) (spans-front t m few spans long)
                 ∙ ap (λ (n : Mapped (Policy Span)). spansHeld holding (judged t n) spans) is;
           }
 
-      module _ (e : told a ≡ treeAnswer (length nodes) x) (k : nodes′ ≡ nodesAfter holding (findTree stringByte (length nodes) x) nodes) where
+      module _ (e : told a ≡ treeAnswer (length nodes) x) (k : nodes′ ≡ nodesAfter holding (findTree stringSet (length nodes) x) nodes) where
         held-by : (f : Found) → Right (length nodes) x f → told a ≡ answered f → nodes′ ≡ nodesAfter holding f nodes → a .refusal ≡ 0
             → (t : Tree) × (q : ℕ) × (f ≡ tree t q) × Rooted nodes′ x t
-        held-by (tree t q) h e k z = let b = way .begins nodeWords (rows t) nodes in (t, q, refl, rooted stringByte x t q h nodes′ (b .0) (k ∙ b .1))
+        held-by (tree t q) h e k z = let b = way .begins nodeWords (rows t) nodes in (t, q, refl, rooted stringSet x t q h nodes′ (b .0) (k ∙ b .1))
         held-by (fault n p) h e k z = absurd (omega (arith, h .0, ap (λ (b : TreeAnswer). b .refusal) e))
 
-        root-found : a .refusal ≡ 0 → (t : Tree) × (q : ℕ) × (findTree stringByte (length nodes) x ≡ tree t q) × Rooted nodes′ x t
+        root-found : a .refusal ≡ 0 → (t : Tree) × (q : ℕ) × (findTree stringSet (length nodes) x ≡ tree t q) × Rooted nodes′ x t
         unfolding treeAnswer
-        root-found z = held-by (findTree stringByte (length nodes) x) (right (length nodes) x) e k z
+        root-found z = held-by (findTree stringSet (length nodes) x) (right (length nodes) x) e k z
 
         pub root-held : a .refusal ≡ 0 → Held nodes′ x 0
         root-held z = root-found z .3 .root
@@ -278,7 +279,7 @@ module _ (holding : Left → ℕ → Words → Words → Words) (end : Counted �
         mapped-reads (tree t q) h e k r s′ m =
             let z : a .refusal ≡ 0 = ap (λ (b : TreeAnswer). b .refusal) e in
             let b = way .begins nodeWords (rows t) nodes in
-            let root : Rooted nodes′ x t = rooted stringByte x t q h nodes′ (b .0) (k ∙ b .1) in
+            let root : Rooted nodes′ x t = rooted stringSet x t q h nodes′ (b .0) (k ∙ b .1) in
             let small : size (nodeAt nodes′ x 0) ≤ maxNodes = root-small (root .root) in
             settled-reads t q e k (mapping (nodeAt nodes′ x 0)) (ap mapping (root .is)) (mapped-refusing (nodeAt nodes′ x 0) small _ refl)
             (mapped-few (nodeAt nodes′ x 0) small _ refl) r s′ (m .accepted z)
@@ -290,6 +291,6 @@ module _ (holding : Left → ℕ → Words → Words → Words) (end : Counted �
         unfolding policyAnswer treeAnswer
         ensured r s′ m same i c v u =
             let whole : length s′ ≡ spanWords = same ∙ front-long in
-            let f = mapped-reads (findTree stringByte (length nodes) x) (right (length nodes) x) e k r s′ m in
+            let f = mapped-reads (findTree stringSet (length nodes) x) (right (length nodes) x) e k r s′ m in
             rw (le-ltb (length spans) spanWords long, u, take-at s′ (drop spanWords spans) spanWords whole, drop-at s′ (drop spanWords spans) spanWords whole, c)
-            (f .answer, (f .table, f .strings))
+            (f .answer, (f .table, f .spanned))

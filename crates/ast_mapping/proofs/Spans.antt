@@ -15,7 +15,7 @@ use Rattle.cel_policy.specs.Laws.SpanTable.{spanRows-append, length-spanRows}
 use Rattle.parser.specs.declared.Node.{Node as Numbered}
 use Rattle.parser.proofs.Rows.{sets-append}
 use Rattle.ast_mapping.specs.declared.mapping.Mapped.the-variants.{Full}
-use Rattle.ast_mapping.specs.View.{spanOf, spansFrom, stringsOf}
+use Rattle.ast_mapping.specs.View.{spansFrom, stringsOf}
 use Rattle.ast_mapping.specs.Steps.{mappedAs}
 use Rattle.ast_mapping.specs.Spans.{PutList, Put}
 

@@ -1,19 +1,18 @@
 -- What the steps of the mapping come to in the definitions, where their parts have answered. Assumes nothing.
-use mathlib.Core.Path.{_≡_, refl, sym, ap, subst, _∙_}
-use Prim.Native.Nat.{ℕ, suc, _≤_, _<_}
+use mathlib.Core.Path.{_≡_, refl, sym, subst, _∙_}
+use Prim.Native.Nat.{ℕ, _≤_}
 use native.Mathlib.Omega.{arith}
-use mathlib.Core.Bool.{Bool, true, false, cond}
+use mathlib.Core.Bool.{cond}
 use lib.ListN.{length}
 use lib.Seq.{slice}
-use lib.Dec.{eqb, ltb}
 use borrow.Author.Tests.{le-ltb, ne-eqb, eq-eqb, eqb-false}
 use Rattle.cel_text.specs.Byte.{Text}
-use Rattle.cel_text.specs.Tree.{Kind, array, object, function}
+use Rattle.cel_text.specs.Tree.{Kind}
 use Rattle.cel_text.specs.Table.{Words, kindNumber, stringKind, word}
 use Rattle.cel_policy.specs.Names.{same, spelling}
 use Rattle.cel_policy.specs.Policy.{Span}
-use Rattle.cel_policy.specs.Mapping.{Node, leaf, branch, Refusal, Mapped, good, bad, Typed, unexpectedType, unexpectedName, typed}
-use Rattle.ast_mapping.specs.View.{nodeAt, number, children, typedAt, Part, Stands, Held}
+use Rattle.cel_policy.specs.Mapping.{Node, leaf, branch, Mapped, good, Typed, unexpectedType, unexpectedName, typed}
+use Rattle.ast_mapping.specs.View.{nodeAt, number, children, typedAt, Stands, Held}
 use Rattle.ast_mapping.specs.Steps.{fieldsUsed}
 use Rattle.ast_mapping.proofs.View.{no-string}
 

@@ -4,7 +4,6 @@ use Prim.Native.Nat.{ℕ, zero, suc, _+_, _*_, _≤_, _<_}
 use native.Mathlib.Nat.{add-zero}
 use native.Mathlib.Omega.{arith}
 use mathlib.Core.Bool.{false}
-use mathlib.Core.List.{List, [], _∷_}
 use lib.ListN.{length}
 use lib.Seq.{slice}
 use lib.Dec.{eqb, lit<}
@@ -20,7 +19,7 @@ use Rattle.cel_policy.specs.Laws.Counts.{size, sizes}
 use Rattle.parser.specs.Kinds.{kindOf}
 use Rattle.parser.specs.Rows.{rowTold}
 use Rattle.parser.specs.declared.row.Row.{Row as Told-row}
-use Rattle.ast_mapping.specs.View.{spanOf, nodeFrom, nodesFrom, nodeAt, number, children, RowIs, Part, Stands, StandAll, Held}
+use Rattle.ast_mapping.specs.View.{nodeFrom, nodesFrom, nodeAt, number, children, Part, Stands, StandAll, Held}
 
 size-positive : (m : Node Span) → 0 < size m
 size-positive (leaf n a) = lit< tt

@@ -1,23 +1,22 @@
 -- A lookup's walk over the children of an object. Assumes nothing.
-use mathlib.Core.Path.{_≡_, refl, sym, ap, _∙_}
-use Prim.Native.Nat.{ℕ, suc, _+_, _-_, _*_, _≤_, _<_}
+use mathlib.Core.Path.{_≡_, refl, ap, _∙_}
+use Prim.Native.Nat.{ℕ, suc, _+_, _≤_, _<_}
 use native.Mathlib.Omega.{arith}
 use mathlib.Core.Bool.{Bool, true, false, cond}
 use mathlib.Core.Option.{some}
-use lib.ListN.{length}
 use lib.Seq.{slice}
 use Rattle.cel_text.specs.Byte.{Text}
 use Rattle.cel_text.specs.Table.{Words, word}
 use Rattle.cel_policy.specs.Names.{same, spelling}
 use Rattle.cel_policy.specs.Policy.{Span}
-use Rattle.cel_policy.specs.Mapping.{Node, Nodes, childless, _▹_∶_, lookup}
-use Rattle.cel_policy.specs.Laws.Counts.{size, sizes}
+use Rattle.cel_policy.specs.Mapping.{Nodes, childless, _▹_∶_, lookup}
+use Rattle.cel_policy.specs.Laws.Counts.{sizes}
 use Rattle.ast_mapping.specs.View.{nodeAt, children, Held}
 use Rattle.ast_mapping.specs.Steps.{foundAs, FoundIf, Looked}
 use Rattle.ast_mapping.specs.declared.row.Found.{Found}
 use Rattle.ast_mapping.specs.declared.row.Found.the-variants.{At, Nothing}
 use Rattle.parser.specs.declared.Node.{Node as Numbered}
-use Rattle.ast_mapping.proofs.View.{Begins, begins-none, past, within, room, Child, next-child, last-child}
+use Rattle.ast_mapping.proofs.View.{Begins, begins-none, past, Child, next-child, last-child}
 
 -- the children before number `next` were looked at
 pub record Passed (w : Words) (x : Text) (n name next : ℕ) (r : Found) : Type 0 where
@@ -26,10 +25,6 @@ pub record Passed (w : Words) (x : Text) (n name next : ℕ) (r : Found) : Type 
   pub place : next ≡ suc n + sizes before
   pub found : foundAs (nodeAt w x) r ≡ lookup name before
   pub is : FoundIf (Held w x) r
-
--- the number of a node, from that of its first child
-pub before-first : (n : ℕ) → n + 1 - 1 ≡ n
-before-first n = omega arith
 
 module _ (w : Words) (x : Text) (n : ℕ) (h : Held w x n) (name : ℕ) where
   pub none-passed : Passed w x n name (n + 1) Nothing

@@ -1,24 +1,22 @@
 -- A tree that was read, and the table with its rows: each node stands at its number, and its names and keys lie in the text. Assumes nothing.
-use mathlib.Core.Path.{_≡_, refl, sym, ap, subst, _∙_}
-use Prim.Native.Nat.{ℕ, zero, suc, _+_, _*_, _≤_, _<_}
-use native.Mathlib.Nat.{add-zero}
+use mathlib.Core.Path.{_≡_, refl, sym, ap, _∙_}
+use Prim.Native.Nat.{ℕ, suc, _+_, _*_, _≤_}
 use native.Mathlib.Omega.{arith}
 use mathlib.Core.Bool.{Bool}
-use mathlib.Core.List.{List, [], _∷_, _++_}
-use lib.ListN.{length, drop, getD, length-append, length-drop}
-use lib.Seq.{slice, slice-empty, getD-drop}
-use Rattle.cel_text.specs.Byte.{Text, _⧺_, stringByte}
-use Rattle.cel_text.specs.Tree.{Kind, array, object, function, opener, closer, Key, unkeyed, key, Tree, string, container, Trees, ∅, _▸_∶_, nodes, nodesAll, count}
-use Rattle.cel_text.specs.Grammar.{Named, nameless, with-name, Head, array-head, object-head, function-head, Label, in-array, in-function, in-object, Value, a-string, a-container, Children, no-child, one-more}
+use mathlib.Core.List.{[], _∷_, _++_}
+use lib.ListN.{length, getD, length-append}
+use lib.Seq.{slice, getD-drop}
+use Rattle.cel_text.specs.Byte.{Text, _⧺_}
+use Rattle.cel_text.specs.Tree.{Kind, array, opener, closer, Key, unkeyed, key, Tree, string, container, Trees, ∅, _▸_∶_, nodes, nodesAll, count}
+use Rattle.cel_text.specs.Grammar.{Named, nameless, with-name, Head, array-head, object-head, function-head, Label, in-array, in-function, in-object, Value, a-string, a-container, no-child, one-more}
 use Rattle.cel_text.specs.Table.{Words, row, rowsOf, rowsAll, rows, rowWords, keyFrom, keyTo, kindNumber, word}
 use Rattle.cel_text.specs.Reading.{read, accepted, limits, maxNodes}
 use Rattle.cel_text.specs.Laws.Sound.{sound, within}
 use Rattle.cel_text.specs.Laws.Table.{length-rowsOf, length-rowsAll}
-use Rattle.cel_policy.specs.Policy.{Span}
-use Rattle.cel_policy.specs.Mapping.{Node, Nodes, keyBytes, nodeOf, nodesOf}
-use Rattle.cel_policy.specs.Laws.Places.{Here, here-all, here-left, here-right}
-use Rattle.cel_policy.specs.Laws.Counts.{size, sizes, size-nodeOf}
-use Rattle.ast_mapping.specs.View.{nodeAt, number, RowIs, Part, Stands, StandAll, Held}
+use Rattle.cel_policy.specs.Mapping.{keyBytes, nodeOf, nodesOf}
+use Rattle.cel_policy.specs.Laws.Places.{Here, here-left, here-right}
+use Rattle.cel_policy.specs.Laws.Counts.{sizes, size-nodeOf}
+use Rattle.ast_mapping.specs.View.{nodeAt, number, Stands, StandAll, Held}
 use Rattle.ast_mapping.proofs.View.{read-back, held}
 
 -- ---- names and keys lie in the text

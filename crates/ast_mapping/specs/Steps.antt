@@ -10,7 +10,7 @@ use Rattle.cel_text.specs.Tree.{Kind, array, object, function}
 use Rattle.cel_text.specs.Reading.{maxNodes}
 use Rattle.cel_text.specs.Table.{Words, kindNumber}
 use Rattle.cel_policy.specs.Policy.{Span, Policy, responseOnly, full, inclusions, exclusions}
-use Rattle.cel_policy.specs.Mapping.{Refusal, Mapped, good, bad, Typed, Request, Only, first, second, typed, lookup, stringArray, listAt, skipped}
+use Rattle.cel_policy.specs.Mapping.{Refusal, Mapped, good, bad, Request, Only, first, second, typed, lookup, stringArray, listAt, skipped}
 use Rattle.ast_mapping.specs.View.{nodeAt, children, typedAt, stringsOf, Held, Tabled}
 use Rattle.ast_mapping.specs.declared.row.Found.{Found}
 use Rattle.ast_mapping.specs.declared.row.Found.the-variants.{At, Nothing}
@@ -58,8 +58,8 @@ abbrev pub refusalTold : Told → Refusal
 refusalTold r = record { refusal = r .refusal; name = r .name; kind = r .kind; node = r .node .0 }
 
 -- a refusal of 7, for another kind than this
-abbrev pub wrongKind : (name kind node : ℕ) → Refusal
-wrongKind name kind node = record { refusal = 7; name = name; kind = kind; node = node }
+abbrev pub kindRefused : (name kind node : ℕ) → Refusal
+kindRefused name kind node = record { refusal = 7; name = name; kind = kind; node = node }
 
 -- the fields that a refusal uses: the name for 7 to 10, the kind that it expects for 7
 abbrev pub fieldsUsed : (refusal name node : ℕ) → Refusal
@@ -72,8 +72,8 @@ fieldsUsed refusal name node =
     }
 
 -- a refusal's node is one that a table may have
-abbrev pub Small : Told → Type 0
-Small r = r .node .0 < maxNodes
+abbrev pub SmallNode : Told → Type 0
+SmallNode r = r .node .0 < maxNodes
 
 -- ---- checks: a check that is passed gives b
 
@@ -83,7 +83,7 @@ checkAs b (check.Refused r) = bad (refusalTold r)
 
 abbrev pub CheckIn : Check → Type 0
 CheckIn check.Right = Unit {0}
-CheckIn (check.Refused r) = Small r
+CheckIn (check.Refused r) = SmallNode r
 
 pub record Checked (w : Words) (x : Text) (n name : ℕ) (r : Check) : Type 0 where
   pub is : checkAs (typedAt w x n) r ≡ typed (expectedKind name) name (nodeAt w x n)
@@ -103,7 +103,7 @@ onlyAs f (which.Refused r) = bad (refusalTold r)
 abbrev pub OnlyIf : (ℕ → Type 0) → Which → Type 0
 OnlyIf P (which.First m) = P (m .0)
 OnlyIf P (which.Second m) = P (m .0)
-OnlyIf P (which.Refused r) = Small r
+OnlyIf P (which.Refused r) = SmallNode r
 
 abbrev pub listedAs : Words → Listed → Mapped (List Span)
 listedAs w (listed.At m) = good (stringsOf w (m .0))
@@ -111,7 +111,7 @@ listedAs w (listed.Refused r) = bad (refusalTold r)
 
 abbrev pub ListedIn : Words → Listed → Type 0
 ListedIn w (listed.At m) = Tabled w (m .0)
-ListedIn w (listed.Refused r) = Small r
+ListedIn w (listed.Refused r) = SmallNode r
 
 pub record Listing (w : Words) (x : Text) (n name : ℕ) (r : Listed) : Type 0 where
   pub is : listedAs w r ≡ listAt name (typedAt w x n)
@@ -123,7 +123,7 @@ headersAs w (headers.Refused r) = bad (refusalTold r)
 
 abbrev pub HeadersIn : Words → Headers → Type 0
 HeadersIn w (headers.Good f) = FoundIf (Tabled w) f
-HeadersIn w (headers.Refused r) = Small r
+HeadersIn w (headers.Refused r) = SmallNode r
 
 pub record HeadersFound (w : Words) (r : Headers) (m : Mapped (Option (List Span))) : Type 0 where
   pub is : headersAs w r ≡ m
@@ -137,7 +137,7 @@ requestAs w (asked.Refused r) = bad (refusalTold r)
 abbrev pub RequestIn : Words → Asked → Type 0
 RequestIn w asked.Absent = Unit {0}
 RequestIn w (asked.Lists h q) = Tabled w (h .0) × Tabled w (q .0)
-RequestIn w (asked.Refused r) = Small r
+RequestIn w (asked.Refused r) = SmallNode r
 
 pub record Requested (w : Words) (r : Asked) (m : Mapped (Option (Request Span))) : Type 0 where
   pub is : requestAs w r ≡ m
@@ -170,7 +170,7 @@ abbrev pub MappedIn : Words → Told-policy → Type 0
 MappedIn w policy.Skip = Unit {0}
 MappedIn w (policy.ResponseOnly kind l) = Tabled w (l .0)
 MappedIn w (policy.Full h q kind l) = Tabled w (h .0) × Tabled w (q .0) × Tabled w (l .0)
-MappedIn w (policy.Refused r) = Small r
+MappedIn w (policy.Refused r) = SmallNode r
 
 pub record Maps (w : Words) (r : Told-policy) (m : Mapped (Policy Span)) : Type 0 where
   pub is : mappedAs w r ≡ m

@@ -6,7 +6,8 @@ ghost use Rattle.cel_text.specs.Table.{kindNumber};
 ghost use Rattle.cel_policy.specs.Names.{ValidationArgs, Certification, RequestCertification};
 ghost use Rattle.cel_policy.specs.Mapping.{andThen, typed, lookup, exactlyOne, requestLists, requestPart, listOf, responsePart, certificationParts, validationArgs, mapping};
 ghost use Rattle.ast_mapping.specs.View.{nodeAt, children, typedAt, Held, Tabled};
-ghost use Rattle.ast_mapping.specs.Steps.{expectedKind, refusalTold, wrongKind, fieldsUsed, foundAs, numbered, onlyAs, Checked, ListChecked, Listing, Requested, HeadersFound, Responded, certifiedAs, Maps};
+ghost use Rattle.ast_mapping.specs.Steps.{expectedKind, refusalTold, kindRefused, fieldsUsed, foundAs, numbered, onlyAs, Checked, ListChecked, Listing, Requested};
+ghost use Rattle.ast_mapping.specs.Steps.{HeadersFound, Responded, certifiedAs, Maps};
 use crate::name;
 use crate::name::CERTIFICATION;
 use crate::name::CERTIFICATION_OBJECT;
@@ -125,7 +126,7 @@ fn refused(refusal: u32, name: u32, node: Node) -> Refusal
 
 // A node that is not of the kind that was expected.
 fn unexpected_type(name: u32, kind: u32, node: Node) -> Refusal
-    ensures { λ r. ⌜ refusalTold r ≡ wrongKind name kind (node .0) ⌝ }
+    ensures { λ r. ⌜ refusalTold r ≡ kindRefused name kind (node .0) ⌝ }
 {
     Refusal {
         refusal: UNEXPECTED_NODE_TYPE,

@@ -21,11 +21,12 @@ pub(crate) fn lookup(text: &[u8], table: &[u32], object: Node, name: u32) -> Fou
     let mut next = Node(object.0 + 1);
     let mut found = Found::Nothing;
     while next.0 < end.0 {
-        let row = read_row(table, next);
-        if name::is_name_at(text, row.keyfrom, row.keyto, name) {
-            found = Found::At(next);
-        }
+        let child = next;
+        let row = read_row(table, child);
         next = row.past;
+        if name::is_name_at(text, row.keyfrom, row.keyto, name) {
+            found = Found::At(child);
+        }
     }
     found
 }

@@ -8,7 +8,7 @@ ghost use Rattle.cel_policy.specs.Spans.{spansLeft};
 ghost use Rattle.parser.specs.Found.{told};
 ghost use Rattle.ast_mapping.specs.declared.mapping.Mapped.the-variants.{ResponseOnly, Full};
 ghost use Rattle.ast_mapping.specs.View.{stringsOf, Tabled};
-ghost use Rattle.ast_mapping.specs.Steps.{refusalTold, Small, mappedAs, MappedIn};
+ghost use Rattle.ast_mapping.specs.Steps.{refusalTold, SmallNode, mappedAs, MappedIn};
 ghost use Rattle.ast_mapping.specs.Spans.{PutList, Put, stringsIn, few, spareFrom, refusedIn, Settled};
 use crate::PolicyAnswer;
 use crate::SPAN_WORDS;
@@ -130,7 +130,7 @@ pub(crate) fn spare(refusal: u32, end: usize) -> usize
 
 // A refusal at a node of the tree, with the tree's nodes and depth.
 fn refused_in(tree: Answer, refusal: Refusal) -> Answer
-    requires { ⌜ Small refusal ⌝ }
+    requires { ⌜ SmallNode refusal ⌝ }
     ensures { λ r. ⌜ told r ≡ refusedIn (told tree) (refusalTold refusal) ⌝ }
 {
     Answer {

@@ -15,7 +15,7 @@ use Rattle.cel_policy.specs.Laws.Judging.{SpansInside, faultless-inside, shaped
 use Rattle.create_cel_expr.specs.declared.Judged.{Judged}
 use Rattle.create_cel_expr.specs.declared.Judged.the-variants.{Clean, Faulty}
 use Rattle.create_cel_expr.specs.Judged.{judgedAs, Judges, printing}
-use Rattle.create_cel_expr.proofs.Sizes.{Told}
+use Rattle.create_cel_expr.proofs.Sizes.{Gave}
 
 module _ (k : Counted) (ws : Words) (x : Text) where
   -- 20, and 21 after it
@@ -62,15 +62,15 @@ module _ (k : Counted) (ws : Words) (x : Text) where
 
   -- what is printed after it
   module _ (j : Judged) (out : Text) where
-    pub told-faulty : {a : PrintAnswer} {r i : ℕ} → j ≡ Faulty r i → a ≡ printAnswered (unprinted r i) → Told a out out (printing j k ws x (length out))
-    told-faulty f e = rw f (e, refl)
+    pub gave-faulty : {a : PrintAnswer} {r i : ℕ} → j ≡ Faulty r i → a ≡ printAnswered (unprinted r i) → Gave a out out (printing j k ws x (length out))
+    gave-faulty f e = rw f (e, refl)
 
     module _ {a : PrintAnswer} {out′ : Text} where
-      pub told-clean : j ≡ Clean → Told a out out′ (sized (printed (strings x (placed k ws))) (length out)) → Told a out out′ (printing j k ws x (length out))
-      told-clean f t = rw f t
+      pub gave-clean : j ≡ Clean → Gave a out out′ (sized (printed (strings x (placed k ws))) (length out)) → Gave a out out′ (printing j k ws x (length out))
+      gave-clean f t = rw f t
 
-      pub told-by :
-          (S : ℕ → Bool) → judgedAs j ≡ judgement S k ws x → Told a out out′ (printing j k ws x (length out))
+      pub gave-by :
+          (S : ℕ → Bool) → judgedAs j ≡ judgement S k ws x → Gave a out out′ (printing j k ws x (length out))
           → (a ≡ printAnswer S k ws x (length out)) × (out′ ≡ printOutput S k ws x out)
       unfolding printAnswer printOutput findPrint
-      told-by S e t = subst (λ (g : Judgement). Told a out out′ (unlessJudged g (sized (printed (strings x (placed k ws))) (length out)))) e t
+      gave-by S e t = subst (λ (g : Judgement). Gave a out out′ (unlessJudged g (sized (printed (strings x (placed k ws))) (length out)))) e t

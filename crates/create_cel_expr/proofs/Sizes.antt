@@ -44,27 +44,23 @@ unfolding sized
 sized-24 t room h r = rw (le-ltb maxText (length t) h, lt-ltb room (length t) r)
 
 -- an answer and an output after it are those of what was found
-abbrev pub Told : PrintAnswer → (out out′ : Text) → Printing → Type 0
-Told a out out′ w = (a ≡ printAnswered w) × (out′ ≡ output w out)
+abbrev pub Gave : PrintAnswer → (out out′ : Text) → Printing → Type 0
+Gave a out out′ w = (a ≡ printAnswered w) × (out′ ≡ output w out)
 
 module _ (p : Policy Text) (out : Text) {n : ℕ} (measured : n ≡ min tooLong (printedLength p)) where
   long : length (printed p) ≡ printedLength p
   long = length-printed p
 
-  pub told-23 : {a : PrintAnswer} → maxText < n → a ≡ printAnswered (unprinted 23 0) → Told a out out (sized (printed p) (length out))
-  told-23 h e = rw (sized-23 (printed p) (length out) (omega (arith, measured, long))) (e, refl)
+  pub gave-23 : {a : PrintAnswer} → maxText < n → a ≡ printAnswered (unprinted 23 0) → Gave a out out (sized (printed p) (length out))
+  gave-23 h e = rw (sized-23 (printed p) (length out) (omega (arith, measured, long))) (e, refl)
 
-  pub told-24 : {a : PrintAnswer} → n ≤ maxText → length out < n → a ≡ printAnswered (unprinted 24 0) → Told a out out (sized (printed p) (length out))
-  told-24 h r e = rw (sized-24 (printed p) (length out) (omega (arith, measured, long)) (omega (arith, measured, long))) (e, refl)
+  pub gave-24 : {a : PrintAnswer} → n ≤ maxText → length out < n → a ≡ printAnswered (unprinted 24 0) → Gave a out out (sized (printed p) (length out))
+  gave-24 h r e = rw (sized-24 (printed p) (length out) (omega (arith, measured, long)) (omega (arith, measured, long))) (e, refl)
 
-  -- the length of what is written
-  pub told-length : n ≤ maxText → n ≡ length (printed p)
-  told-length h = omega (arith, measured, long)
-
-  pub told-written : {out′ : Text} {past : ℕ} → n ≤ maxText → n ≤ length out → Wrote out out′ 0 past (printed p)
-      → Told (record { refusal = 0; name = 0; kind = 0; place = 0; length = n }) out out′ (sized (printed p) (length out))
-  told-written h r w =
-      let same : n ≡ length (printed p) = told-length h in
+  pub gave-written : {out′ : Text} {past : ℕ} → n ≤ maxText → n ≤ length out → Wrote out out′ 0 past (printed p)
+      → Gave (record { refusal = 0; name = 0; kind = 0; place = 0; length = n }) out out′ (sized (printed p) (length out))
+  gave-written h r w =
+      let same : n ≡ length (printed p) = omega (arith, measured, long) in
       let whole = wrote-whole w (omega (arith, same)) in
       rw (sized-fits (printed p) (length out) (omega (arith, same)) (omega (arith, same))) (
         ap {B = PrintAnswer} (λ (m : ℕ). record { refusal = 0; name = 0; kind = 0; place = 0; length = m }) same,

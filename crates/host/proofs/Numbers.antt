@@ -26,8 +26,8 @@ spansLent = replicate spanWords 0
 -- ---- what the read found, and what is printed of it
 
 module _ (x : Text) (room : ℕ) where
-  abbrev found : FoundPolicy
-  found = findPolicy stringByte nodeWords spanWords x
+  abbrev policyFound : FoundPolicy
+  policyFound = findPolicy stringByte nodeWords spanWords x
 
   refused-found : (f : FoundPolicy) → (policyAnswered f .answer .refusal ≡ 0 → ⊥) → reprinted stringByte f x room ≡ unprinted (policyAnswered f .answer .refusal) 0
   refused-found (policy t p) z = absurd (z refl)
@@ -40,7 +40,7 @@ module _ (x : Text) (room : ℕ) where
       policyAnswered f .answer .refusal ≡ 0
       → findPrint anyByte (policyAnswered f .policy) (spansHeld holdOver f spansLent) x room ≡ reprinted stringByte f x room
 
-  printed-found : Same found
+  printed-found : Same policyFound
   printed-found =
       findPolicy-cases stringByte nodeWords spanWords x Same (λ a e. absurd (omega arith)) (λ e. absurd (omega arith)) (λ p e. absurd (omega arith))
       (λ f p e. absurd (omega (arith, faultNumber-range f))) (λ t r m e. absurd (omega (arith, refusal-range (nodeOf x t 0) r m)))
@@ -55,7 +55,7 @@ module _ (x out : Text) {read : PolicyAnswer} (isRead : read ≡ policyAnswer no
   -- ---- refused while it was read
   pub host-unread : (read .answer .refusal ≡ 0 → ⊥) → (refusalBase + read .answer .refusal ≡ canonicalAnswer x (length out)) × (out ≡ canonicalOutput x out)
   unfolding policyAnswer canonicalAnswer canonicalOutput findCanonical
-  host-unread z = rw (isRead) (rw (refused-found x (length out) (found x (length out)) (rw isRead at z)) (refl, refl))
+  host-unread z = rw (isRead) (rw (refused-found x (length out) (policyFound x (length out)) (rw isRead at z)) (refl, refl))
 
   -- ---- and after it was read
   module _
@@ -67,29 +67,29 @@ module _ (x out : Text) {read : PolicyAnswer} (isRead : read ≡ policyAnswer no
       (isPrint : a ≡ printAnswer anyByte (read .policy) ws x (length out))
       (isOutput : out′ ≡ printOutput anyByte (read .policy) ws x out)
     where
-      prints : findPrint anyByte (read .policy) ws x (length out) ≡ findCanonical stringByte x (length out)
+      same-print : findPrint anyByte (read .policy) ws x (length out) ≡ findCanonical stringByte x (length out)
       unfolding policyAnswer policySpansOver findCanonical
-      prints =
+      same-print =
           (λ i. findPrint anyByte (isRead i .policy) (areSpans i) x (length out))
           ∙ printed-found x (length out) (ap (λ (p : PolicyAnswer). p .answer .refusal) (sym isRead) ∙ accepted)
 
-      answered : a ≡ printAnswered (findCanonical stringByte x (length out))
+      same-answer : a ≡ printAnswered (findCanonical stringByte x (length out))
       unfolding printAnswer
-      answered = isPrint ∙ ap printAnswered prints
+      same-answer = isPrint ∙ ap printAnswered same-print
 
-      outputs : out′ ≡ canonicalOutput x out
+      same-output : out′ ≡ canonicalOutput x out
       unfolding printOutput canonicalOutput
-      outputs = isOutput ∙ ap (λ (w : Printing). output w out) prints
+      same-output = isOutput ∙ ap (λ (w : Printing). output w out) same-print
 
       few : (w : Printing) → Gives OfPrint w → printAnswered w .refusal ≤ 24
       few (written t) g = lit≤ tt
       few (unprinted r p) g = g .1
 
       gives : Gives OfPrint (findCanonical stringByte x (length out))
-      gives = subst (Gives OfPrint) prints (print-gives anyByte (read .policy) ws x (length out))
+      gives = subst (Gives OfPrint) same-print (print-gives anyByte (read .policy) ws x (length out))
 
       pub print-small : a .refusal ≤ 24
-      print-small = rw answered (few (findCanonical stringByte x (length out)) gives)
+      print-small = rw same-answer (few (findCanonical stringByte x (length out)) gives)
 
       one-length : (w : Printing) → Gives OfPrint w → printAnswered w .refusal ≡ 0 → printAnswered w .length ≡ oneNumber w
       one-length (written t) g e = refl
@@ -101,8 +101,8 @@ module _ (x out : Text) {read : PolicyAnswer} (isRead : read ≡ policyAnswer no
 
       pub host-printed : a .refusal ≡ 0 → (a .length ≡ canonicalAnswer x (length out)) × (out′ ≡ canonicalOutput x out)
       unfolding canonicalAnswer
-      host-printed z = (rw answered (one-length (findCanonical stringByte x (length out)) gives (rw answered at z)), outputs)
+      host-printed z = (rw same-answer (one-length (findCanonical stringByte x (length out)) gives (rw same-answer at z)), same-output)
 
       pub host-unprinted : (a .refusal ≡ 0 → ⊥) → (refusalBase + a .refusal ≡ canonicalAnswer x (length out)) × (out′ ≡ canonicalOutput x out)
       unfolding canonicalAnswer
-      host-unprinted z = (rw answered (one-refusal (findCanonical stringByte x (length out)) (rw answered at z)), outputs)
+      host-unprinted z = (rw same-answer (one-refusal (findCanonical stringByte x (length out)) (rw same-answer at z)), same-output)

@@ -1,5 +1,7 @@
 // The host's entry: a text is read as a policy and the policy is printed, over tables of its own. One number answers: the printed
 // length, or 65,536 plus the refusal. Its contract cites the definitions of `cel_policy`, for every text and every output.
+use ast_mapping::SPAN_WORDS;
+use parser::NODE_WORDS;
 ghost use mathlib.Core.Path.{_≡_};
 ghost use lib.ListN.{length};
 ghost use Rattle.cel_policy.specs.Answers.{canonicalAnswer, canonicalOutput};
@@ -11,14 +13,14 @@ pub fn canonicalise(text: &[u8], out: &mut [u8]) -> u32
     ensures answer { λ r. ⌜ r ≡ canonicalAnswer (now (text .entry)) (length (now (out .entry))) ⌝ }
     ensures output { λ r. ⌜ now (out .exit) ≡ canonicalOutput (now (text .entry)) (now (out .entry)) ⌝ }
 {
-    let mut nodes = [0u32; 2048];
-    let mut spans = [0u32; 512];
-    let read = ast_mapping::read_zeroed(text, &mut nodes, &mut spans);
+    let mut nodes = [0u32; NODE_WORDS];
+    let mut spans = [0u32; SPAN_WORDS];
+    let read = ast_mapping::read_over(text, &mut nodes, &mut spans);
     let answer = read.answer;
     if answer.refusal != 0 {
         return REFUSED + answer.refusal;
     }
-    let printed = create_cel_expr::print_known(read.policy, text, &spans, out);
+    let printed = create_cel_expr::print_any(read.policy, text, &spans, out);
     if printed.refusal != 0 {
         return REFUSED + printed.refusal;
     }

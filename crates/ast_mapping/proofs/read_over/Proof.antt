@@ -1,6 +1,6 @@
 -- `read_over` meets its contract: a short span table is refused first; then the tree is read over the node table and mapped, and a refusal clears.
 -- Assumes nothing.
-use mathlib.Core.Path.{_≡_, sym, _∙_}
+use mathlib.Core.Path.{_≡_, sym}
 use Prim.Native.Nat.{_≤_}
 use native.Mathlib.Omega.{arith}
 use mathlib.Core.List.{_++_}
@@ -32,7 +32,10 @@ slice-relend-prefix-map-tree : tie.Need-slice-relend-prefix-map-tree
 slice-relend-prefix-map-tree c = c .before .before .before .before .before .if1 .left
 
 slice-aggregate-map-tree : tie.Need-slice-aggregate-map-tree
-slice-aggregate-map-tree c = sym (length-take-le spanWords (c .before .before .before .before .before .before .before .before .before .before .args .spans .now) (c .before .before .before .before .before .before .if1 .left))
+slice-aggregate-map-tree c =
+    let b6 = c .before .before .before .before .before .before in
+    let b10 = b6 .before .before .before .before in
+    sym (length-take-le spanWords (b10 .args .spans .now) (b6 .if1 .left))
 
 map-tree-requires : tie.Need-map-tree-requires
 unfolding treeOver
@@ -71,11 +74,15 @@ same-length-2 c = search needs
 returns-2 : tie.Need-returns-2
 unfolding policyNodesOver policySpansOver treeOver
 returns-2 c =
-    let a = c .before .before .before .before .before .before .before .before .before .before .before .before .before .before .before .before .before .before .args in
-    let t = c .before .before .before .before .before .before .before .before .before .before .before .before .read-over in
-    let m = c .before .before .before .before .before .before .before .map-tree in
+    let b7 = c .before .before .before .before .before .before .before in
+    let b12 = b7 .before .before .before .before .before in
+    let b14 = b12 .before .before in
+    let b18 = b14 .before .before .before .before in
+    let a = b18 .args in
+    let t = b12 .read-over in
+    let m = b7 .map-tree in
     let v = c .before .before .clear in
-    ensured holdOver (λ (k : Counted). spanWords) lent (a .text .now) (a .nodes .now) (a .spans .now) (c .before .before .before .before .before .before .before .before .before .before .before .before .before .before .if1 .left) (t .result) (t .last .1 .0)
+    ensured holdOver (λ (k : Counted). spanWords) lent (a .text .now) (a .nodes .now) (a .spans .now) (b14 .if1 .left) (t .result) (t .last .1 .0)
     (t .ensures .0) (t .ensures .1) (m .result) (m .last .1 .1 .1 .0) (m .ensures) (m .kept .1 .1 .1 .0) (c .before .before .before .spare .result) (c .before .before .before .spare .ensures)
     (v .last .0) (v .ensures)
 

@@ -33,7 +33,10 @@ slice-relend-prefix-map-tree : tie.Need-slice-relend-prefix-map-tree
 slice-relend-prefix-map-tree c = c .before .before .before .before .before .if1 .left
 
 slice-aggregate-map-tree : tie.Need-slice-aggregate-map-tree
-slice-aggregate-map-tree c = sym (length-take-le spanWords (c .before .before .before .before .before .before .before .before .before .before .args .spans .now) (c .before .before .before .before .before .before .if1 .left))
+slice-aggregate-map-tree c =
+    let b6 = c .before .before .before .before .before .before in
+    let b10 = b6 .before .before .before .before in
+    sym (length-take-le spanWords (b10 .args .spans .now) (b6 .if1 .left))
 
 map-tree-requires : tie.Need-map-tree-requires
 unfolding treeTable
@@ -75,12 +78,17 @@ same-length-2 c = search needs
 returns-2 : tie.Need-returns-2
 unfolding policyNodes policySpans treeTable
 returns-2 c =
-    let a = c .before .before .before .before .before .before .before .before .before .before .before .before .before .before .before .before .before .before .before .args in
-    let t = c .before .before .before .before .before .before .before .before .before .before .before .before .before .read-tree in
-    let m = c .before .before .before .before .before .before .before .before .map-tree in
+    let b5 = c .before .before .before .before .before in
+    let b8 = b5 .before .before .before in
+    let b13 = b8 .before .before .before .before .before in
+    let b15 = b13 .before .before in
+    let b19 = b15 .before .before .before .before in
+    let a = b19 .args in
+    let t = b13 .read-tree in
+    let m = b8 .map-tree in
     let v = c .before .before .clear in
-    let i = c .before .before .before .spare .ensures ∙ ap (spareFrom (spansLeft (m .result .answer .refusal))) (c .before .before .before .before .before .strings-end .ensures) in
-    ensured hold (λ (k : Counted). 2 * stringCount k) zeros (a .text .now) (a .nodes .now) (a .spans .now) (c .before .before .before .before .before .before .before .before .before .before .before .before .before .before .before .if1 .left) (t .result) (t .last .1 .0)
+    let i = c .before .before .before .spare .ensures ∙ ap (spareFrom (spansLeft (m .result .answer .refusal))) (b5 .strings-end .ensures) in
+    ensured hold (λ (k : Counted). 2 * stringCount k) zeros (a .text .now) (a .nodes .now) (a .spans .now) (b15 .if1 .left) (t .result) (t .last .1 .0)
     (t .ensures .0) (t .ensures .1) (m .result) (m .last .1 .1 .1 .0) (m .ensures) (m .kept .1 .1 .1 .0) (c .before .before .before .spare .result) i (v .last .0) (v .ensures)
 
 pub read-policy-spec : {M : Type 1} → statement M

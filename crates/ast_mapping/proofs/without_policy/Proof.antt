@@ -1,9 +1,7 @@
 -- `without_policy` meets its contract: the answer is kept. Assumes nothing.
 use mathlib.Core.Path.{ap}
 use Rattle.cel_policy.specs.Policy.{Counted}
-use Rattle.cel_policy.specs.Answers.{PolicyAnswer}
 use Rattle.parser.specs.Found.{told}
-use borrow.Author.Needs.{needs}
 use Rattle.ast_mapping.proofs.without_policy.Statement.{statement}
 use Rattle.ast_mapping.proofs.without_policy.Tie as tie
 

@@ -2,8 +2,8 @@
 use lib.Dec.{lit≤}
 use Rattle.cel_policy.specs.Policy.{numbers}
 use Rattle.create_cel_expr.specs.Given.{policyOf}
-use Rattle.create_cel_expr.proofs.Sizes.{told-23, told-24, told-written}
-use Rattle.create_cel_expr.proofs.Judgings.{judges-small, judges-inside, judges-few, told-faulty, told-clean}
+use Rattle.create_cel_expr.proofs.Sizes.{gave-23, gave-24, gave-written}
+use Rattle.create_cel_expr.proofs.Judgings.{judges-small, judges-inside, judges-few, gave-faulty, gave-clean}
 use Rattle.create_cel_expr.proofs.print_judged.Statement.{statement}
 use Rattle.create_cel_expr.proofs.print_judged.Tie as tie
 use borrow.Author.Needs.{needs}
@@ -20,7 +20,7 @@ refused-requires c κs =
 returns : tie.Need-returns
 returns c =
     let a = c .before .before .before .before .before .before .before .args in
-    told-faulty (numbers (a .policy)) (a .spans .now) (a .text .now) (a .judged) (a .out .now) (c .before .before .judged .given .1) (c .refused .ensures)
+    gave-faulty (numbers (a .policy)) (a .spans .now) (a .text .now) (a .judged) (a .out .now) (c .before .before .judged .given .1) (c .refused .ensures)
 
 enum-told : tie.Need-enum-told
 enum-told c = search needs
@@ -40,8 +40,8 @@ returns-2 c =
     let a = c .before .before .before .before .before .before .before .before .args in
     let e = c .before .before .before .enum-told in
     let l = c .before .before .printed-length in
-    told-clean (numbers (a .policy)) (a .spans .now) (a .text .now) (a .judged) (a .out .now) (e .given .1)
-    (told-23 (policyOf (a .policy) (a .text .now) (a .spans .now)) (a .out .now) (l .ensures) (c .before .if1 .taken) (c .refused2 .ensures))
+    gave-clean (numbers (a .policy)) (a .spans .now) (a .text .now) (a .judged) (a .out .now) (e .given .1)
+    (gave-23 (policyOf (a .policy) (a .text .now) (a .spans .now)) (a .out .now) (l .ensures) (c .before .if1 .taken) (c .refused2 .ensures))
 
 refused-requires-3 : tie.Need-refused-requires-3
 refused-requires-3 c κs = lit≤ tt
@@ -51,8 +51,8 @@ returns-3 c =
     let a = c .before .before .before .before .before .before .before .before .before .args in
     let e = c .before .before .before .before .enum-told in
     let l = c .before .before .before .printed-length in
-    told-clean (numbers (a .policy)) (a .spans .now) (a .text .now) (a .judged) (a .out .now) (e .given .1)
-    (told-24 (policyOf (a .policy) (a .text .now) (a .spans .now)) (a .out .now) (l .ensures) (c .before .before .if1 .left) (c .before .if2 .taken) (c .refused3 .ensures))
+    gave-clean (numbers (a .policy)) (a .spans .now) (a .text .now) (a .judged) (a .out .now) (e .given .1)
+    (gave-24 (policyOf (a .policy) (a .text .now) (a .spans .now)) (a .out .now) (l .ensures) (c .before .before .if1 .left) (c .before .if2 .taken) (c .refused3 .ensures))
 
 create-cel-expr-requires : tie.Need-create-cel-expr-requires
 create-cel-expr-requires c κs =
@@ -72,8 +72,8 @@ returns-4 c =
     let e = c .before .before .before .before .before .before .before .enum-told in
     let l = c .before .before .before .before .before .before .printed-length in
     let t = c .before .before .before .before in
-    told-clean (numbers (a .policy)) (a .spans .now) (a .text .now) (a .judged) (a .out .now) (e .given .1)
-    (told-written (policyOf (a .policy) (a .text .now) (a .spans .now)) (a .out .now) (l .ensures) (t .before .if1 .left) (t .if2 .left) (c .before .before .create-cel-expr .ensures))
+    gave-clean (numbers (a .policy)) (a .spans .now) (a .text .now) (a .judged) (a .out .now) (e .given .1)
+    (gave-written (policyOf (a .policy) (a .text .now) (a .spans .now)) (a .out .now) (l .ensures) (t .before .if1 .left) (t .if2 .left) (c .before .before .create-cel-expr .ensures))
 
 pub print-judged-spec : {M : Type 1} → statement M
 print-judged-spec =

@@ -1,7 +1,7 @@
 -- `print_policy` meets its contract: what is judged, then what is printed. Assumes nothing.
 use Rattle.parser.specs.Set.{stringSet}
 use Rattle.cel_policy.specs.Policy.{numbers}
-use Rattle.create_cel_expr.proofs.Judgings.{told-by}
+use Rattle.create_cel_expr.proofs.Judgings.{gave-by}
 use Rattle.create_cel_expr.proofs.print_policy.Statement.{statement}
 use Rattle.create_cel_expr.proofs.print_policy.Tie as tie
 use borrow.Author.Needs.{needs}
@@ -19,7 +19,7 @@ returns : tie.Need-returns
 returns c =
     let a = c .before .before .before .before .before .before .before .before .args in
     let j = c .before .before .before .before .judge-policy in
-    told-by (numbers (a .policy)) (a .spans .now) (a .text .now) (j .result) (a .out .now) stringSet (j .ensures) (c .before .before .print-judged .ensures)
+    gave-by (numbers (a .policy)) (a .spans .now) (a .text .now) (j .result) (a .out .now) stringSet (j .ensures) (c .before .before .print-judged .ensures)
 
 pub print-policy-spec : {M : Type 1} → statement M
 print-policy-spec =

@@ -1,61 +1,76 @@
 -- `canonicalise` meets its contract: what was read, and then what was printed. Assumes nothing.
-use mathlib.Core.Path.{refl}
-use lib.Dec.{lit≤}
-use native.Mathlib.Omega.{arith}
-use Rattle.ast_mapping.specs.Spans.{policyTold}
-use Rattle.create_cel_expr.specs.Given.{told}
-use Rattle.host.proofs.Numbers.{read-small, host-unread, host-faultless, print-small, host-printed, host-unprinted}
+use Rattle.host.proofs.Numbers.{read-small, host-unread, print-small, host-printed, host-unprinted}
 use borrow.Author.Needs.{needs}
 use Rattle.host.proofs.canonicalise.Statement.{statement}
 use Rattle.host.proofs.canonicalise.Tie as tie
+use native.Mathlib.Omega.{arith}
 
-slice-aggregate-read-zeroed : tie.Need-slice-aggregate-read-zeroed
-slice-aggregate-read-zeroed c = search needs
+slice-aggregate-read-over : tie.Need-slice-aggregate-read-over
+slice-aggregate-read-over c = search needs
 
-slice-aggregate-read-zeroed-2 : tie.Need-slice-aggregate-read-zeroed-2
-slice-aggregate-read-zeroed-2 c = search needs
+slice-aggregate-read-over-2 : tie.Need-slice-aggregate-read-over-2
+slice-aggregate-read-over-2 c = search needs
 
-read-zeroed-requires : tie.Need-read-zeroed-requires
-read-zeroed-requires c κs = (refl, lit≤ tt)
+read-over-requires : tie.Need-read-over-requires
+read-over-requires c κs = search needs
 
 add-result : tie.Need-add-result
-add-result c = record { fits = omega (arith, read-small (c .before .before .before .before .before .before .before .before .before .before .before .args .text .now) (c .before .before .before .before .before .before .before .before .before .before .before .args .out .now) (policyTold (c .before .before .before .before .before .before .read-zeroed .result)) (c .before .before .before .before .before .before .read-zeroed .ensures .0)) }
+add-result c =
+    let a = c .before .before .before .before .before .before .before .before .before .before .before .args in
+    record { fits = omega (arith, read-small (a .text .now) (a .out .now) (c .before .before .before .before .before .before .read-over .ensures .0)) }
 
 returns : tie.Need-returns
-returns c = host-unread (c .before .before .before .before .before .before .before .before .before .before .before .args .text .now) (c .before .before .before .before .before .before .before .before .before .before .before .args .out .now) (policyTold (c .before .before .before .before .before .before .read-zeroed .result)) (c .before .before .before .before .before .before .read-zeroed .ensures .0) (c .before .if1 .taken)
+returns c =
+    let a = c .before .before .before .before .before .before .before .before .before .before .before .args in
+    host-unread (a .text .now) (a .out .now) (c .before .before .before .before .before .before .read-over .ensures .0) (c .before .if1 .taken)
 
-slice-aggregate-print-known : tie.Need-slice-aggregate-print-known
-slice-aggregate-print-known c = search needs
+slice-aggregate-print-any : tie.Need-slice-aggregate-print-any
+slice-aggregate-print-any c = search needs
 
-print-known-requires : tie.Need-print-known-requires
-print-known-requires c κs = host-faultless (c .before .before .before .before .before .before .before .before .before .before .before .before .args .text .now) (c .before .before .before .before .before .before .before .before .before .before .before .before .args .out .now) (policyTold (c .before .before .before .before .before .before .before .read-zeroed .result)) (c .before .before .before .before .before .before .before .read-zeroed .ensures .0) (c .before .before .before .before .before .before .before .read-zeroed .last .1 .1 .0) (c .before .before .if1 .left) (c .before .before .before .before .before .before .before .read-zeroed .ensures .1 .1)
+print-any-requires : tie.Need-print-any-requires
+print-any-requires c κs = search needs
 
 add-result-2 : tie.Need-add-result-2
-add-result-2 c = record { fits = omega (arith, print-small (c .before .before .before .before .before .before .before .before .before .before .before .before .before .before .before .before .before .before .args .text .now) (c .before .before .before .before .before .before .before .before .before .before .before .before .before .before .before .before .before .before .args .out .now) (policyTold (c .before .before .before .before .before .before .before .before .before .before .before .before .before .read-zeroed .result)) (c .before .before .before .before .before .before .before .before .before .before .before .before .before .read-zeroed .ensures .0) (c .before .before .before .before .before .before .before .before .before .before .before .before .before .read-zeroed .last .1 .1 .0) (c .before .before .before .before .before .before .before .before .if1 .left) (c .before .before .before .before .before .before .before .before .before .before .before .before .before .read-zeroed .ensures .1 .1) (c .before .before .before .before .before .print-known .last .1 .1 .1 .0) (told (c .before .before .before .before .before .print-known .result)) (c .before .before .before .before .before .print-known .ensures .0) (c .before .before .before .before .before .print-known .ensures .1)) }
+add-result-2 c =
+    let a = c .before .before .before .before .before .before .before .before .before .before .before .before .before .before .before .before .before .before .args in
+    let r = c .before .before .before .before .before .before .before .before .before .before .before .before .before .read-over .ensures in
+    let e = c .before .before .before .before .before .before .before .before .if1 in
+    let p = c .before .before .before .before .before .print-any .ensures in
+    record { fits = omega (arith, print-small (a .text .now) (a .out .now) (r .0) (e .left) (r .1 .1) (p .0) (p .1)) }
 
 same-length : tie.Need-same-length
 same-length c = search needs
 
 returns-2 : tie.Need-returns-2
-returns-2 c = host-unprinted (c .before .before .before .before .before .before .before .before .before .before .before .before .before .before .before .before .before .before .args .text .now) (c .before .before .before .before .before .before .before .before .before .before .before .before .before .before .before .before .before .before .args .out .now) (policyTold (c .before .before .before .before .before .before .before .before .before .before .before .before .before .read-zeroed .result)) (c .before .before .before .before .before .before .before .before .before .before .before .before .before .read-zeroed .ensures .0) (c .before .before .before .before .before .before .before .before .before .before .before .before .before .read-zeroed .last .1 .1 .0) (c .before .before .before .before .before .before .before .before .if1 .left) (c .before .before .before .before .before .before .before .before .before .before .before .before .before .read-zeroed .ensures .1 .1) (c .before .before .before .before .before .print-known .last .1 .1 .1 .0) (told (c .before .before .before .before .before .print-known .result)) (c .before .before .before .before .before .print-known .ensures .0) (c .before .before .before .before .before .print-known .ensures .1) (c .before .if2 .taken)
+returns-2 c =
+    let a = c .before .before .before .before .before .before .before .before .before .before .before .before .before .before .before .before .before .before .args in
+    let r = c .before .before .before .before .before .before .before .before .before .before .before .before .before .read-over .ensures in
+    let e = c .before .before .before .before .before .before .before .before .if1 in
+    let p = c .before .before .before .before .before .print-any .ensures in
+    host-unprinted (a .text .now) (a .out .now) (r .0) (e .left) (r .1 .1) (p .0) (p .1) (c .before .if2 .taken)
 
 same-length-2 : tie.Need-same-length-2
 same-length-2 c = search needs
 
 returns-3 : tie.Need-returns-3
-returns-3 c = host-printed (c .before .before .before .before .before .before .before .before .before .before .before .before .before .before .before .before .before .args .text .now) (c .before .before .before .before .before .before .before .before .before .before .before .before .before .before .before .before .before .args .out .now) (policyTold (c .before .before .before .before .before .before .before .before .before .before .before .before .read-zeroed .result)) (c .before .before .before .before .before .before .before .before .before .before .before .before .read-zeroed .ensures .0) (c .before .before .before .before .before .before .before .before .before .before .before .before .read-zeroed .last .1 .1 .0) (c .before .before .before .before .before .before .before .if1 .left) (c .before .before .before .before .before .before .before .before .before .before .before .before .read-zeroed .ensures .1 .1) (c .before .before .before .before .print-known .last .1 .1 .1 .0) (told (c .before .before .before .before .print-known .result)) (c .before .before .before .before .print-known .ensures .0) (c .before .before .before .before .print-known .ensures .1) (c .if2 .left)
+returns-3 c =
+    let a = c .before .before .before .before .before .before .before .before .before .before .before .before .before .before .before .before .before .args in
+    let r = c .before .before .before .before .before .before .before .before .before .before .before .before .read-over .ensures in
+    let e = c .before .before .before .before .before .before .before .if1 in
+    let p = c .before .before .before .before .print-any .ensures in
+    host-printed (a .text .now) (a .out .now) (r .0) (e .left) (r .1 .1) (p .0) (p .1) (c .if2 .left)
 
 pub canonicalise-spec : {M : Type 1} → statement M
 canonicalise-spec =
     tie.close
     (tie.spec
-    slice-aggregate-read-zeroed
-    slice-aggregate-read-zeroed-2
-    read-zeroed-requires
+    slice-aggregate-read-over
+    slice-aggregate-read-over-2
+    read-over-requires
     add-result
     returns
-    slice-aggregate-print-known
-    print-known-requires
+    slice-aggregate-print-any
+    print-any-requires
     add-result-2
     same-length
     returns-2

@@ -51,4 +51,22 @@ returns-7 : tie.Need-returns-7
 returns-7 c = rw (c .before .request2 .given .1)
 
 pub certified-spec : {M : Type 1} → statement M
-certified-spec = tie.close (tie.spec enum-told enum-known-response enum-known-response-2 enum-known-response-3 enum-known-request enum-known-response-4 enum-known-response-5 enum-known-response-6 enum-known-request-2 returns returns-2 returns-3 returns-4 returns-5 returns-6 returns-7)
+certified-spec =
+    tie.close
+    (tie.spec
+    enum-told
+    enum-known-response
+    enum-known-response-2
+    enum-known-response-3
+    enum-known-request
+    enum-known-response-4
+    enum-known-response-5
+    enum-known-response-6
+    enum-known-request-2
+    returns
+    returns-2
+    returns-3
+    returns-4
+    returns-5
+    returns-6
+    returns-7)

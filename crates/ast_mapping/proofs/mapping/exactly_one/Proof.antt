@@ -3,7 +3,6 @@ use mathlib.Core.Path.{ap, _∙_}
 use Prim.Native.Nat.{_+_}
 use Rattle.cel_policy.specs.Mapping.{bad}
 use Rattle.ast_mapping.proofs.Steps.{fields-none}
-use borrow.Author.Needs.{needs}
 use Rattle.ast_mapping.proofs.mapping.exactly_one.Statement.{statement}
 use Rattle.ast_mapping.proofs.mapping.exactly_one.Tie as tie
 use native.Mathlib.Omega.{arith}

@@ -14,8 +14,10 @@ returns-2 c =
 
 returns-3 : tie.Need-returns-3
 returns-3 c =
-    let n = c .before .before .before .before .before .args .name in
-    rw (ne-eqb n 1 (c .before .before .before .before .match .rest .1), le-leb 9 n (c .before .before .before .if1 .left), lt-leb n 10 (c .before .before .if2 .left), le-leb 13 n (c .before .if3 .left), le-leb n 14 (omega arith))
+    let b4 = c .before .before .before .before in
+    let b5 = b4 .before in
+    let n = b5 .args .name in
+    rw (ne-eqb n 1 (b4 .match .rest .1), le-leb 9 n (c .before .before .before .if1 .left), lt-leb n 10 (c .before .before .if2 .left), le-leb 13 n (c .before .if3 .left), le-leb n 14 (omega arith))
 
 returns-4 : tie.Need-returns-4
 returns-4 c =
@@ -29,8 +31,10 @@ returns-5 c =
 
 returns-6 : tie.Need-returns-6
 returns-6 c =
-    let n = c .before .before .before .before .before .args .name in
-    rw (ne-eqb n 1 (c .before .before .before .before .match .rest .1), le-leb 9 n (c .before .before .before .if1 .left), lt-leb n 10 (c .before .before .if2 .left), le-leb 13 n (c .before .if3 .left), lt-leb n 14 (c .if4 .left))
+    let b4 = c .before .before .before .before in
+    let b5 = b4 .before in
+    let n = b5 .args .name in
+    rw (ne-eqb n 1 (b4 .match .rest .1), le-leb 9 n (c .before .before .before .if1 .left), lt-leb n 10 (c .before .before .if2 .left), le-leb 13 n (c .before .if3 .left), lt-leb n 14 (c .if4 .left))
 
 pub expected-kind-spec : {M : Type 1} → statement M
 expected-kind-spec = tie.close (tie.spec returns returns-2 returns-3 returns-4 returns-5 returns-6)

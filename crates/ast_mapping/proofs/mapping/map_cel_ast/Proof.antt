@@ -20,7 +20,9 @@ enum-known-call : tie.Need-enum-known-call
 enum-known-call c = c .match .keys1
 
 returns : tie.Need-returns
-returns c = let s = c .before .before .before .before .before .before in map-untyped (s .args .table .now) (s .args .text .now) (s .pre) (rw (c .before .call .given .1) at (c .before .before .before .validate-node .ensures))
+returns c =
+    let s = c .before .before .before .before .before .before in
+    map-untyped (s .args .table .now) (s .args .text .now) (s .pre) (rw (c .before .call .given .1) at (c .before .before .before .validate-node .ensures))
 
 enum-told : tie.Need-enum-told
 enum-told c = c .match .keys2
@@ -33,17 +35,20 @@ refused-requires c κs = tt
 
 returns-2 : tie.Need-returns-2
 returns-2 c =
-    let s = c .before .before .before .before .before .before .before .before .before in
-    map-bare (s .args .table .now) (s .args .text .now) (s .pre) (right (c .before .before .before .before)) (sym (root (c .before .before .before) .past) ∙ c .before .if1 .taken) (c .refused .ensures)
+    let b4 = c .before .before .before .before in
+    let s = b4 .before .before .before .before .before in
+    map-bare (s .args .table .now) (s .args .text .now) (s .pre) (right b4) (sym (root (c .before .before .before) .past) ∙ c .before .if1 .taken) (c .refused .ensures)
 
 validate-arguments-requires : tie.Need-validate-arguments-requires
 validate-arguments-requires c κs =
-    let s = c .before .before .before .before .before .before .before .before in argument-held (s .args .table .now) (s .args .text .now) (s .pre) (right (c .before .before .before)) (λ e. c .if1 .left (root (c .before .before) .past ∙ e))
+    let s = c .before .before .before .before .before .before .before .before in
+    argument-held (s .args .table .now) (s .args .text .now) (s .pre) (right (c .before .before .before)) (λ e. c .if1 .left (root (c .before .before) .past ∙ e))
 
 returns-3 : tie.Need-returns-3
 returns-3 c =
-    let s = c .before .before .before .before .before .before .before .before .before in
-    map-argument (s .args .table .now) (s .args .text .now) (s .pre) (right (c .before .before .before .before)) (λ e. c .before .if1 .left (root (c .before .before .before) .past ∙ e)) (c .validate-arguments .ensures)
+    let b4 = c .before .before .before .before in
+    let s = b4 .before .before .before .before .before in
+    map-argument (s .args .table .now) (s .args .text .now) (s .pre) (right b4) (λ e. c .before .if1 .left (root (c .before .before .before) .past ∙ e)) (c .validate-arguments .ensures)
 
 pub map-cel-ast-spec : {M : Type 1} → statement M
 map-cel-ast-spec =

@@ -11,7 +11,8 @@ right : (c : tie.After-enum-told) → let s = c .before .before .before .before 
 right c = rw (c .enum-told .given .1) at (c .before .before .validate-node .ensures)
 
 headers : (c : tie.After-known-told2)
-    → let s = c .before .before .before .before .before .before .before .before .before in Listing (s .args .table .now) (s .args .text .now) (s .args .request .0) 9 (At (c .before .first .given .0 .0))
+    → let s = c .before .before .before .before .before .before .before .before .before in
+    Listing (s .args .table .now) (s .args .text .now) (s .args .request .0) 9 (At (c .before .first .given .0 .0))
 headers c = rw (c .before .first .given .1) at (c .before .before .before .string-list .ensures)
 
 validate-node-requires : tie.Need-validate-node-requires
@@ -39,8 +40,9 @@ enum-known-first-2 c = c .match2 .keys2
 
 returns-2 : tie.Need-returns-2
 returns-2 c =
-    let s = c .before .before .before .before .before .before .before .before .before in
-    request-first (s .args .table .now) (s .args .text .now) (s .args .request .0) (right (c .before .before .before .before)) (rw (c .before .first2 .given .1) at (c .before .before .before .string-list .ensures))
+    let b4 = c .before .before .before .before in
+    let s = b4 .before .before .before .before .before in
+    request-first (s .args .table .now) (s .args .text .now) (s .args .request .0) (right b4) (rw (c .before .first2 .given .1) at (c .before .before .before .string-list .ensures))
 
 string-list-requires-2 : tie.Need-string-list-requires-2
 string-list-requires-2 c κs = (c .before .before .before .before .before .before .before .before .before .pre, refl)
@@ -53,14 +55,18 @@ enum-known-second-2 c = c .match3 .keys2
 
 returns-3 : tie.Need-returns-3
 returns-3 c =
-    let s = c .before .before .before .before .before .before .before .before .before .before .before .before .before in
-    request-both (s .args .table .now) (s .args .text .now) (s .args .request .0) (right (c .before .before .before .before .before .before .before .before)) (headers (c .before .before .before .before))
+    let b4 = c .before .before .before .before in
+    let b8 = b4 .before .before .before .before in
+    let s = b8 .before .before .before .before .before in
+    request-both (s .args .table .now) (s .args .text .now) (s .args .request .0) (right b8) (headers b4)
     (rw (c .before .second .given .1) at (c .before .before .before .string-list2 .ensures))
 
 returns-4 : tie.Need-returns-4
 returns-4 c =
-    let s = c .before .before .before .before .before .before .before .before .before .before .before .before .before in
-    request-second (s .args .table .now) (s .args .text .now) (s .args .request .0) (right (c .before .before .before .before .before .before .before .before)) (headers (c .before .before .before .before))
+    let b4 = c .before .before .before .before in
+    let b8 = b4 .before .before .before .before in
+    let s = b8 .before .before .before .before .before in
+    request-second (s .args .table .now) (s .args .text .now) (s .args .request .0) (right b8) (headers b4)
     (rw (c .before .second2 .given .1) at (c .before .before .before .string-list2 .ensures))
 
 pub request-lists-spec : {M : Type 1} → statement M

@@ -1,5 +1,4 @@
 -- `mapping::response_headers` meets its contract: the list object, then the strings in it, where they are. Assumes nothing.
-use mathlib.Core.Path.{_≡_}
 use Rattle.ast_mapping.specs.Steps.{Looked, Checked}
 use Rattle.ast_mapping.specs.declared.row.Found.the-variants.{At}
 use Rattle.ast_mapping.specs.declared.mapping.Check.the-variants.{Right}
@@ -12,11 +11,14 @@ looked : (c : tie.After-known-told)
     → let s = c .before .before .before .before .before .before in Looked (s .args .table .now) (s .args .text .now) (s .args .object .0) (s .args .name) (At (c .before .found .given .0 .0))
 looked c = rw (c .before .found .given .1) at (c .before .before .before .lookup .ensures)
 
-right : (c : tie.After-enum-told2) → let s = c .before .before .before .before .before .before .before .before .before in Checked (s .args .table .now) (s .args .text .now) (c .before .before .before .before .found .given .0 .0 .0) 15 Right
+right : (c : tie.After-enum-told2)
+    → let s = c .before .before .before .before .before .before .before .before .before in
+    Checked (s .args .table .now) (s .args .text .now) (c .before .before .before .before .found .given .0 .0 .0) 15 Right
 right c = rw (c .enum-told2 .given .1) at (c .before .before .validate-node .ensures)
 
 inside : (c : tie.After-known-told3)
-    → let s = c .before .before .before .before .before .before .before .before .before .before .before .before .before in Looked (s .args .table .now) (s .args .text .now) (c .before .before .before .before .before .before .before .before .found .given .0 .0 .0) 16 (At (c .before .inner .given .0 .0))
+    → let s = c .before .before .before .before .before .before .before .before .before .before .before .before .before in
+    Looked (s .args .table .now) (s .args .text .now) (c .before .before .before .before .before .before .before .before .found .given .0 .0 .0) 16 (At (c .before .inner .given .0 .0))
 inside c = rw (c .before .inner .given .1) at (c .before .before .before .lookup2 .ensures)
 
 lookup-requires : tie.Need-lookup-requires
@@ -65,15 +67,19 @@ returns-3 c =
 
 validate-string-array-requires : tie.Need-validate-string-array-requires
 validate-string-array-requires c κs =
-    let s = c .before .before .before .before .before .before .before .before .before .before .before .before .before in (tabled (s .args .table .now) (s .args .text .now) (c .before .inner .given .0 .0 .0) (inside c .held), s .pre .1)
+    let s = c .before .before .before .before .before .before .before .before .before .before .before .before .before in
+    (tabled (s .args .table .now) (s .args .text .now) (c .before .inner .given .0 .0 .0) (inside c .held), s .pre .1)
 
 enum-known-strings : tie.Need-enum-known-strings
 enum-known-strings c = c .match4 .keys1
 
 returns-4 : tie.Need-returns-4
 returns-4 c =
-    let s = c .before .before .before .before .before .before .before .before .before .before .before .before .before .before .before .before .before in
-    headers-wrong (s .args .table .now) (s .args .text .now) (s .args .object .0) (s .args .name) (looked (c .before .before .before .before .before .before .before .before .before .before .before)) (right (c .before .before .before .before .before .before .before .before)) (inside (c .before .before .before .before))
+    let b4 = c .before .before .before .before in
+    let b8 = b4 .before .before .before .before in
+    let b11 = b8 .before .before .before in
+    let s = b11 .before .before .before .before .before .before in
+    headers-wrong (s .args .table .now) (s .args .text .now) (s .args .object .0) (s .args .name) (looked b11) (right b8) (inside b4)
     (rw (c .before .strings .given .1) at (c .before .before .before .validate-string-array .ensures))
 
 enum-told-4 : tie.Need-enum-told-4
@@ -81,8 +87,10 @@ enum-told-4 c = c .match4 .keys2
 
 returns-5 : tie.Need-returns-5
 returns-5 c =
-    let s = c .before .before .before .before .before .before .before .before .before .before .before .before .before .before .before .before in
-    headers-right (s .args .table .now) (s .args .text .now) (s .args .object .0) (s .args .name) (looked (c .before .before .before .before .before .before .before .before .before .before)) (right (c .before .before .before .before .before .before .before)) (inside (c .before .before .before))
+    let b7 = c .before .before .before .before .before .before .before in
+    let b10 = b7 .before .before .before in
+    let s = b10 .before .before .before .before .before .before in
+    headers-right (s .args .table .now) (s .args .text .now) (s .args .object .0) (s .args .name) (looked b10) (right b7) (inside (c .before .before .before))
     (rw (c .enum-told4 .given .1) at (c .before .before .validate-string-array .ensures))
 
 pub response-headers-spec : {M : Type 1} → statement M

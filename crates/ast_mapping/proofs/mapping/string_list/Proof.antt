@@ -1,5 +1,4 @@
 -- `mapping::string_list` meets its contract: a lookup, and a check of what it found. Assumes nothing.
-use mathlib.Core.Path.{_≡_}
 use Rattle.ast_mapping.specs.Steps.{Looked}
 use Rattle.ast_mapping.specs.declared.row.Found.the-variants.{At}
 use Rattle.ast_mapping.proofs.View.{few}

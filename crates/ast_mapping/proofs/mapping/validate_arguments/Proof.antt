@@ -58,14 +58,17 @@ returns-2 c =
 
 returns-3 : tie.Need-returns-3
 returns-3 c =
-    let s = c .before .before .before .before .before .before .before .before .before .before .before .before in
-    arguments-certified (s .args .table .now) (s .args .text .now) (s .args .arguments .0) (right (c .before .before .before .before .before .before .before)) (rw (c .before .before .only .given .1) at (which (c .before .before .before .before)))
+    let b4 = c .before .before .before .before in
+    let b7 = b4 .before .before .before in
+    let s = b7 .before .before .before .before .before in
+    arguments-certified (s .args .table .now) (s .args .text .now) (s .args .arguments .0) (right b7) (rw (c .before .before .only .given .1) at (which b4))
     (c .validate-certification .ensures)
 
 returns-4 : tie.Need-returns-4
 returns-4 c =
-    let s = c .before .before .before .before .before .before .before .before .before .before .before in
-    arguments-refused (s .args .table .now) (s .args .text .now) (s .args .arguments .0) (right (c .before .before .before .before .before .before)) (rw (c .before .only2 .given .1) at (which (c .before .before .before)))
+    let b6 = c .before .before .before .before .before .before in
+    let s = b6 .before .before .before .before .before in
+    arguments-refused (s .args .table .now) (s .args .text .now) (s .args .arguments .0) (right b6) (rw (c .before .only2 .given .1) at (which (c .before .before .before)))
 
 pub validate-arguments-spec : {M : Type 1} → statement M
 validate-arguments-spec =

@@ -28,9 +28,10 @@ certified-requires c κs = tt
 
 returns-2 : tie.Need-returns-2
 returns-2 c =
-    let s = c .before .before .before .before .before .before .before .before in
+    let b5 = c .before .before .before .before .before in
+    let s = b5 .before .before .before in
     rw (c .certified .ensures)
-    (certification-parts (s .args .table .now) (s .args .text .now) (s .args .certification .0) (rw (c .before .before .before .enum-told .given .1) at (c .before .before .before .before .before .validate-node .ensures))
+    (certification-parts (s .args .table .now) (s .args .text .now) (s .args .certification .0) (rw (c .before .before .before .enum-told .given .1) at (b5 .validate-node .ensures))
     (c .before .before .validate-request-certification .ensures) (c .before .validate-response-certification .ensures))
 
 pub validate-certification-spec : {M : Type 1} → statement M

@@ -10,7 +10,6 @@ use Rattle.ast_mapping.proofs.Counts.{le-as}
 use Rattle.ast_mapping.proofs.View.{RowRead, row-read, room, few}
 use Rattle.ast_mapping.proofs.Steps.{NameAt, wrong-kind, right-kind}
 use Rattle.ast_mapping.proofs.Parts.{small-of}
-use borrow.Author.Needs.{needs}
 use Rattle.ast_mapping.proofs.mapping.validate_node.Statement.{statement}
 use Rattle.ast_mapping.proofs.mapping.validate_node.Tie as tie
 

@@ -16,13 +16,16 @@ looked : (c : tie.After-known-told)
     → let s = c .before .before .before .before .before .before in Looked (s .args .table .now) (s .args .text .now) (s .args .certification .0) 11 (At (c .before .found .given .0 .0))
 looked c = rw (c .before .found .given .1) at (c .before .before .before .lookup .ensures)
 
-right : (c : tie.After-enum-told2) → let s = c .before .before .before .before .before .before .before .before .before in Checked (s .args .table .now) (s .args .text .now) (c .before .before .before .before .found .given .0 .0 .0) 12 Right
+right : (c : tie.After-enum-told2)
+    → let s = c .before .before .before .before .before .before .before .before .before in
+    Checked (s .args .table .now) (s .args .text .now) (c .before .before .before .before .found .given .0 .0 .0) 12 Right
 right c = rw (c .enum-told2 .given .1) at (c .before .before .validate-node .ensures)
 
 included : (c : tie.After-known-told3)
     → let s = c .before .before .before .before .before .before .before .before .before .before .before .before .before in
     let w = s .args .table .now in
-    HeadersFound w (Good (c .before .first .given .0 .0)) (listOf 13 (lookup 13 (children (nodeAt w (s .args .text .now) (c .before .before .before .before .before .before .before .before .found .given .0 .0 .0)))))
+    HeadersFound w (Good (c .before .first .given .0 .0))
+    (listOf 13 (lookup 13 (children (nodeAt w (s .args .text .now) (c .before .before .before .before .before .before .before .before .found .given .0 .0 .0)))))
 included c = rw (c .before .first .given .1) at (c .before .before .before .response-headers .ensures)
 
 lookup-requires : tie.Need-lookup-requires
@@ -71,8 +74,10 @@ enum-known-first-2 c = c .match3 .keys2
 
 returns-3 : tie.Need-returns-3
 returns-3 c =
-    let s = c .before .before .before .before .before .before .before .before .before .before .before .before .before in
-    response-first (s .args .table .now) (s .args .text .now) (s .args .certification .0) (looked (c .before .before .before .before .before .before .before)) (right (c .before .before .before .before))
+    let b4 = c .before .before .before .before in
+    let b7 = b4 .before .before .before in
+    let s = b7 .before .before .before .before .before .before in
+    response-first (s .args .table .now) (s .args .text .now) (s .args .certification .0) (looked b7) (right b4)
     (rw (c .before .first2 .given .1) at (c .before .before .before .response-headers .ensures))
 
 response-headers-requires-2 : tie.Need-response-headers-requires-2
@@ -89,14 +94,21 @@ enum-known-second-2 c = c .match4 .keys2
 
 returns-4 : tie.Need-returns-4
 returns-4 c =
-    let s = c .before .before .before .before .before .before .before .before .before .before .before .before .before .before .before .before .before .before in
-    response-one (s .args .table .now) (s .args .text .now) (s .args .certification .0) (looked (c .before .before .before .before .before .before .before .before .before .before .before .before)) (right (c .before .before .before .before .before .before .before .before .before)) (included (c .before .before .before .before .before))
-    (rw (c .before .before .second .given .1) at (c .before .before .before .before .response-headers2 .ensures)) (c .exactly-one .result) (c .exactly-one .ensures)
+    let b4 = c .before .before .before .before in
+    let b5 = b4 .before in
+    let b9 = b5 .before .before .before .before in
+    let b12 = b9 .before .before .before in
+    let s = b12 .before .before .before .before .before .before in
+    response-one (s .args .table .now) (s .args .text .now) (s .args .certification .0) (looked b12) (right b9) (included b5)
+    (rw (c .before .before .second .given .1) at (b4 .response-headers2 .ensures)) (c .exactly-one .result) (c .exactly-one .ensures)
 
 returns-5 : tie.Need-returns-5
 returns-5 c =
-    let s = c .before .before .before .before .before .before .before .before .before .before .before .before .before .before .before .before .before in
-    response-second (s .args .table .now) (s .args .text .now) (s .args .certification .0) (looked (c .before .before .before .before .before .before .before .before .before .before .before)) (right (c .before .before .before .before .before .before .before .before)) (included (c .before .before .before .before))
+    let b4 = c .before .before .before .before in
+    let b8 = b4 .before .before .before .before in
+    let b11 = b8 .before .before .before in
+    let s = b11 .before .before .before .before .before .before in
+    response-second (s .args .table .now) (s .args .text .now) (s .args .certification .0) (looked b11) (right b8) (included b4)
     (rw (c .before .second2 .given .1) at (c .before .before .before .response-headers2 .ensures))
 
 pub validate-response-certification-spec : {M : Type 1} → statement M

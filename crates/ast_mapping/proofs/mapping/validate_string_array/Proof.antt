@@ -2,13 +2,13 @@
 use mathlib.Core.Path.{_≡_, sym, ap, _∙_}
 use Prim.Native.Nat.{ℕ, _-_, _+_, _≤_, _<_}
 use native.Mathlib.Numerals.{add-one-le}
-use native.Mathlib.Nat.{le-refl}
+use native.Mathlib.Nat.{le-refl, not-le-of-lt}
 use borrow.Author.Count.{falls, below-more}
 use Rattle.cel_text.specs.Tree.{Kind, array}
 use Rattle.cel_text.specs.Reading.{maxNodes}
 use Rattle.cel_text.specs.Table.{stringKind, kindNumber, word}
 use Rattle.cel_policy.specs.Mapping.{bad, unexpectedType}
-use Rattle.ast_mapping.proofs.Counts.{lt-as, end-as, turn-first, turn-past, turn-later, none-between, fits-node}
+use Rattle.ast_mapping.proofs.Counts.{lt-as, end-as, turn-first, turn-past, turn-later, fits-node}
 use Rattle.ast_mapping.proofs.View.{RowRead, row-read}
 use Rattle.ast_mapping.proofs.Lists.{tabled-row, tabled-small, wrong-array, no-string-at, all-strings}
 use Rattle.ast_mapping.proofs.Parts.{small-of}
@@ -27,14 +27,21 @@ whole c = let s = c .before .before in row-read (c .read-row .ensures) (tabled-r
 list-kind : (c : tie.Else1 Inv-loop μ-loop) → let s = c .before .before .before .before .before in word (s .args .table .now) (s .args .list .0) 0 ≡ kindNumber array
 list-kind c = sym (whole (c .before .before .before) .kind) ∙ c .if1 .left ∙ c .before .before .expected-kind .ensures ∙ ap kindNumber (c .before .before .before .before .before .pre .1)
 
-more : (c : tie.Then2 Inv-loop μ-loop) → let s = c .before .before .before .before .before .before .before .before .before .before .before in c .before .before .before .loop .next .0 < word (s .args .table .now) (s .args .list .0) 7
+more : (c : tie.Then2 Inv-loop μ-loop)
+    → let s = c .before .before .before .before .before .before .before .before .before .before .before in c .before .before .before .loop .next .0 < word (s .args .table .now) (s .args .list .0) 7
 more c = lt-as (whole (c .before .before .before .before .before .before .before .before .before) .past) (c .if2 .taken)
 
 small : (c : tie.Then2 Inv-loop μ-loop) → c .before .before .before .loop .next .0 < maxNodes
 small c = tabled-small (c .before .before .before .before .before .before .before .before .before .before .before .pre .0) (c .before .before .before .loop .next .0) (more c)
 
-element : (c : tie.After-read-row2 Inv-loop μ-loop) → RowRead (c .before .before .before .before .before .before .before .before .before .before .before .before .args .table .now) (c .before .before .before .before .loop .next .0) (c .read-row2 .result)
-element c = row-read (c .read-row2 .ensures) (tabled-row (c .before .before .before .before .before .before .before .before .before .before .before .before .pre .0) (c .before .before .before .before .loop .next .0) (more (c .before)))
+element : (c : tie.After-read-row2 Inv-loop μ-loop)
+    → let l = c .before .before .before .before in
+    let s = l .before .before .before .before .before .before .before .before in
+    RowRead (s .args .table .now) (l .loop .next .0) (c .read-row2 .result)
+element c =
+    let b4 = c .before .before .before .before in
+    let b12 = b4 .before .before .before .before .before .before .before .before in
+    row-read (c .read-row2 .ensures) (tabled-row (b12 .pre .0) (b4 .loop .next .0) (more (c .before)))
 
 read-row-requires : tie.Need-read-row-requires Inv-loop μ-loop
 read-row-requires c κs = tt
@@ -47,7 +54,8 @@ refused-requires c κs = tt
 
 returns : tie.Need-returns Inv-loop μ-loop
 returns c =
-    let s = c .before .before .before .before .before .before in
+    let b4 = c .before .before .before .before in
+    let s = b4 .before .before in
     let w = s .args .table .now in
     let n = s .args .list .0 in
     record {
@@ -55,7 +63,7 @@ returns c =
           λ x h.
           ap bad (c .refused .ensures)
           ∙ ap (λ (k : Kind). unexpectedType (s .args .name) (kindNumber k) n) (s .pre .1)
-          ∙ wrong-array w x (s .args .name) n h (λ e. c .before .if1 .taken (whole (c .before .before .before .before) .kind ∙ e ∙ sym (c .before .before .before .expected-kind .ensures ∙ ap kindNumber (s .pre .1))));
+          ∙ wrong-array w x (s .args .name) n h (λ e. c .before .if1 .taken (whole b4 .kind ∙ e ∙ sym (c .before .before .before .expected-kind .ensures ∙ ap kindNumber (s .pre .1))));
       inside = small-of (c .refused .ensures) (tabled-small (s .pre .0) n (s .pre .0 .begun));
     }
 
@@ -65,7 +73,7 @@ add-t11 c = let s = c .before .before .before .before .before .before .before in
 loop-holds : tie.Need-loop-holds Inv-loop μ-loop
 loop-holds c =
     let s = c .before .before .before .before .before .before .before in
-    (le-refl (s .args .list .0 + 1), turn-first (whole (c .before .before .before .before .before) .past) (s .pre .0 .begun), λ i a b. absurd (none-between a b))
+    (le-refl (s .args .list .0 + 1), turn-first (whole (c .before .before .before .before .before) .past) (s .pre .0 .begun), λ i a b. absurd (not-le-of-lt b a))
 
 read-row-requires-2 : tie.Need-read-row-requires-2 Inv-loop μ-loop
 read-row-requires-2 c κs = tt

@@ -2,14 +2,14 @@
 -- nothing.
 use Rattle.ast_mapping.proofs.Counts.{le-as, lt-as}
 use mathlib.Core.Path.{_≡_, refl, sym, _∙_}
-use mathlib.Core.Bool.{_&&_}
+use mathlib.Core.Bool.{_&&_, and-assoc}
 use Prim.Native.Nat.{suc, _-_, _≤_}
 use lib.ListN.{length, drop, getD}
 use lib.Dec.{eqb}
 use borrow.Author.Count.{falls}
 use native.Mathlib.Numerals.{add-one, add-one-le}
 use Rattle.cel_policy.specs.Names.{same}
-use Rattle.ast_mapping.proofs.Names.{same-lengths, same-step, same-end, and-assoc}
+use Rattle.ast_mapping.proofs.Names.{same-lengths, same-step, same-end}
 use Rattle.ast_mapping.proofs.name.equal.Statement.{statement}
 use Rattle.ast_mapping.proofs.name.equal.Tie as tie
 use native.Mathlib.Omega.{arith}
@@ -43,15 +43,24 @@ loop-less c = falls _ _ (c .before .before .before .loop-test .taken)
 
 loop-again : tie.Need-loop-again Inv-loop μ-loop
 loop-again c =
-    let x = c .before .before .before .before .before .before .before .before .args .a .now in
-    let y = c .before .before .before .before .before .before .before .before .args .b .now in
-    let i = c .before .before .before .before .loop .i in
+    let b4 = c .before .before .before .before in
+    let b8 = b4 .before .before .before .before in
+    let x = b8 .args .a .now in
+    let y = b8 .args .b .now in
+    let i = b4 .loop .i in
     let more = c .before .before .before .loop-test .taken in
-    let both = c .before .before .before .before .loop .inv .1 in
-    (add-one-le more, both, c .before .before .before .before .loop .inv .2 ∙ rw (add-one, same-step x y i more (lt-as both more), c .still .ensures) (and-assoc (c .before .before .before .before .loop .so) (eqb (getD x i 0) (getD y i 0)) (same (drop (suc i) x) (drop (suc i) y))))
+    let both = b4 .loop .inv .1 in (
+      add-one-le more,
+      both,
+      b4 .loop .inv .2 ∙ rw (add-one, same-step x y i more (lt-as both more), c .still .ensures)
+          (sym (and-assoc (b4 .loop .so) (eqb (getD x i 0) (getD y i 0)) (same (drop (suc i) x) (drop (suc i) y)))),
+    )
 
 returns-2 : tie.Need-returns-2 Inv-loop μ-loop
-returns-2 c = sym (c .before .loop .inv .2 ∙ same-end (c .before .before .before .before .before .args .a .now) (c .before .before .before .before .before .args .b .now) (c .before .loop .i) (c .before .loop .so) (c .loop-test .left) (le-as (sym (c .before .loop .inv .1)) refl (c .loop-test .left)))
+returns-2 c =
+    let b5 = c .before .before .before .before .before in
+    sym (c .before .loop .inv .2 ∙ same-end (b5 .args .a .now) (b5 .args .b .now) (c .before .loop .i) (c .before .loop .so) (c .loop-test .left)
+    (le-as (sym (c .before .loop .inv .1)) refl (c .loop-test .left)))
 
 pub equal-spec : {M : Type 1} → statement M
 equal-spec =

@@ -1,6 +1,6 @@
 -- `name::is_name` meets its contract: each arm compares with the spelling of its number. Assumes nothing.
-use mathlib.Core.Path.{_≡_, refl, sym, ap, _∙_}
-use Rattle.cel_policy.specs.Names.{same, spelling}
+use mathlib.Core.Path.{refl}
+use Rattle.cel_policy.specs.Names.{spelling}
 use Rattle.ast_mapping.proofs.Names.{same-none, spelling-none}
 use Rattle.ast_mapping.proofs.name.is_name.Statement.{statement}
 use Rattle.ast_mapping.proofs.name.is_name.Tie as tie

@@ -1,7 +1,7 @@
 -- `name::still` meets its contract: a byte that differs ends the sameness, and no other does. Assumes nothing.
 use mathlib.Core.Path.{sym}
 use borrow.Author.Tests.{eq-eqb, ne-eqb}
-use Rattle.ast_mapping.proofs.Names.{and-true, and-false}
+use mathlib.Core.Bool.{and-true, and-false}
 use Rattle.ast_mapping.proofs.name.still.Statement.{statement}
 use Rattle.ast_mapping.proofs.name.still.Tie as tie
 

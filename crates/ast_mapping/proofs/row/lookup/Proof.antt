@@ -1,13 +1,13 @@
 -- `row::lookup` meets its contract: what was found so far is what the definition finds among the children passed. Assumes nothing.
-use mathlib.Core.Path.{_≡_, refl, sym}
+use mathlib.Core.Path.{_≡_, refl}
 use Prim.Native.Nat.{_-_, _<_}
-use mathlib.Core.Logic.{⊎-elim}
+use native.Mathlib.Nat.{add-sub-cancel}
 use lib.Seq.{slice}
 use Rattle.cel_text.specs.Table.{word}
 use Rattle.cel_policy.specs.Names.{same, spelling}
 use Rattle.ast_mapping.proofs.Counts.{le-as, lt-as}
 use Rattle.ast_mapping.proofs.View.{RowRead, row-read, Child, room, later, few}
-use Rattle.ast_mapping.proofs.Walk.{Passed, before-first, none-passed, hit, miss, all-passed, passing}
+use Rattle.ast_mapping.proofs.Walk.{Passed, none-passed, hit, miss, all-passed, passing}
 use Rattle.ast_mapping.proofs.row.lookup.Statement.{statement}
 use Rattle.ast_mapping.proofs.row.lookup.Tie as tie
 use native.Mathlib.Omega.{arith}
@@ -23,63 +23,91 @@ whole c = let s = c .before .before .before in row-read (c .read-row .ensures) (
 
 passed : (c : tie.At-loop Inv-loop μ-loop)
     → let s = c .before .before .before .before .before .before in Passed (s .args .table .now) (s .args .text .now) (s .args .object .0) (s .args .name) (c .loop .next .0) (c .loop .found)
-passed c = rw (before-first (c .before .before .before .before .before .before .args .object .0)) at (c .loop .inv)
+passed c = rw (add-sub-cancel (c .before .before .before .before .before .before .args .object .0) 1) at (c .loop .inv)
 
-more : (c : tie.Then1 Inv-loop μ-loop) → let s = c .before .before .before .before .before .before .before .before .before in c .before .before .before .loop .next .0 < word (s .args .table .now) (s .args .object .0) 7
+more : (c : tie.Then1 Inv-loop μ-loop)
+    → let s = c .before .before .before .before .before .before .before .before .before in c .before .before .before .loop .next .0 < word (s .args .table .now) (s .args .object .0) 7
 more c = lt-as (whole (c .before .before .before .before .before .before) .past) (c .if1 .taken)
 
 kid : (c : tie.Then1 Inv-loop μ-loop)
-    → let s = c .before .before .before .before .before .before .before .before .before in Child (s .args .table .now) (s .args .text .now) (s .args .object .0) (s .pre) (passed (c .before .before .before) .before) (c .before .before .before .loop .next .0)
-kid c = let s = c .before .before .before .before .before .before .before .before .before in passing (s .args .table .now) (s .args .text .now) (s .args .object .0) (s .pre) (s .args .name) (passed (c .before .before .before)) (more c)
+    → let s = c .before .before .before .before .before .before .before .before .before in
+    Child (s .args .table .now) (s .args .text .now) (s .args .object .0) (s .pre) (passed (c .before .before .before) .before) (c .before .before .before .loop .next .0)
+kid c =
+    let s = c .before .before .before .before .before .before .before .before .before in
+    passing (s .args .table .now) (s .args .text .now) (s .args .object .0) (s .pre) (s .args .name) (passed (c .before .before .before)) (more c)
 
-entry : (c : tie.After-read-row2 Inv-loop μ-loop) → RowRead (c .before .before .before .before .before .before .before .before .before .before .args .table .now) (c .before .before .before .before .loop .next .0) (c .read-row2 .result)
-entry c = let s = c .before .before .before .before .before .before .before .before .before .before in row-read (c .read-row2 .ensures) (room (s .args .table .now) (s .args .text .now) (c .before .before .before .before .loop .next .0) (kid (c .before) .is))
+entry : (c : tie.After-read-row2 Inv-loop μ-loop)
+    → let s = c .before .before .before .before .before .before .before .before .before .before in
+    let l = c .before .before .before .before in
+    RowRead (s .args .table .now) (l .loop .next .0) (c .read-row2 .result)
+entry c =
+    let b4 = c .before .before .before .before in
+    let s = b4 .before .before .before .before .before .before in
+    row-read (c .read-row2 .ensures) (room (s .args .table .now) (s .args .text .now) (b4 .loop .next .0) (kid (c .before) .is))
+
+falling : (c : tie.After-next Inv-loop μ-loop)
+    → let l = c .before .before .before .before .before in
+    let end = c .before .before .before .before .before .before .before .before .read-row .result .past .0 in
+    end - c .before .read-row2 .result .past .0 < end - l .loop .next .0
+falling c =
+    let s = c .before .before .before .before .before .before .before .before .before .before .before in
+    let l = c .before .before .before .before .before in
+    let i = c .before .before in
+    omega (arith, entry (c .before) .past, later (s .args .table .now) (s .args .text .now) (l .loop .next .0) (kid i .is), i .if1 .taken)
+
+keyed : (c : tie.After-is-name-at Inv-loop μ-loop)
+    → let s = c .before .before .before .before .before .before .before .before .before .before .before .before in
+    let w = s .args .table .now in
+    let next = c .before .before .before .before .before .before .loop .next .0 in
+    c .is-name-at .result ≡ same (slice (word w next 3) (word w next 4) (s .args .text .now)) (spelling (s .args .name))
+keyed c = let r = entry (c .before .before) in rw (r .keyfrom, r .keyto) at (c .is-name-at .ensures)
 
 read-row-requires : tie.Need-read-row-requires Inv-loop μ-loop
 read-row-requires c κs = tt
 
-add-t10 : tie.Need-add-t10 Inv-loop μ-loop
-add-t10 c =
+add-t11 : tie.Need-add-t11 Inv-loop μ-loop
+add-t11 c =
     let s = c .before .before .before .before .before in
     omega (arith, few (s .args .table .now) (s .args .text .now) (s .args .object .0) (s .pre))
 
 loop-holds : tie.Need-loop-holds Inv-loop μ-loop
 loop-holds c =
     let s = c .before .before .before .before .before in
-    rw (before-first (s .args .object .0)) (none-passed (s .args .table .now) (s .args .text .now) (s .args .object .0) (s .pre) (s .args .name))
+    rw (add-sub-cancel (s .args .object .0) 1) (none-passed (s .args .table .now) (s .args .text .now) (s .args .object .0) (s .pre) (s .args .name))
 
 read-row-requires-2 : tie.Need-read-row-requires-2 Inv-loop μ-loop
 read-row-requires-2 c κs = tt
 
 is-name-at-requires : tie.Need-is-name-at-requires Inv-loop μ-loop
 is-name-at-requires c κs =
-    let r = entry c in
-    let k = kid (c .before) in
+    let r = entry (c .before) in
+    let k = kid (c .before .before) in
     (le-as (r .keyfrom) (r .keyto) (k .ordered), le-as (r .keyto) refl (k .inside))
 
 loop-less : tie.Need-loop-less Inv-loop μ-loop
-loop-less c =
-    let s = c .before .before .before .before .before .before .before .before .before .before .before .before .before in
-    let next = c .before .before .before .before .before .before .before .loop .next .0 in
-    omega (arith, entry (c .before .before .before) .past, later (s .args .table .now) (s .args .text .now) next (kid (c .before .before .before .before) .is), c .before .before .before .before .if1 .taken)
+loop-less c = falling (c .before .before)
 
 loop-again : tie.Need-loop-again Inv-loop μ-loop
 loop-again c =
-    let s = c .before .before .before .before .before .before .before .before .before .before .before .before .before in
-    let w = s .args .table .now in
-    let x = s .args .text .now in
+    let b4 = c .before .before .before .before in
+    let l = b4 .before .before .before in
+    let s = l .before .before .before .before .before .before in
     let n = s .args .object .0 in
-    let name = s .args .name in
+    let k = c .before in
+    rw (add-sub-cancel n 1, entry (c .before .before .before) .past)
+    (hit (s .args .table .now) (s .args .text .now) n (s .pre) (s .args .name) (passed l) (more b4) (k .is-name-at .result) (keyed k) (l .loop .next) refl (c .if2 .taken))
+
+loop-less-2 : tie.Need-loop-less-2 Inv-loop μ-loop
+loop-less-2 c = falling (c .before .before)
+
+loop-again-2 : tie.Need-loop-again-2 Inv-loop μ-loop
+loop-again-2 c =
+    let s = c .before .before .before .before .before .before .before .before .before .before .before .before .before in
+    let n = s .args .object .0 in
     let l = c .before .before .before .before .before .before .before in
-    let next = l .loop .next .0 in
-    let r = entry (c .before .before .before) in
-    let b = c .before .before .is-name-at .result in
-    let keyed : b ≡ same (slice (word w next 3) (word w next 4) x) (spelling name) = rw (r .keyfrom, r .keyto) at (c .before .before .is-name-at .ensures) in
-    rw (before-first n, r .past)
-    (⊎-elim
-    (λ t. rw (t .1) (hit w x n (s .pre) name (passed l) (more (c .before .before .before .before)) b keyed (l .loop .next) refl (t .0 .taken)))
-    (λ t. rw (t .1) (miss w x n (s .pre) name (passed l) (more (c .before .before .before .before)) b keyed (t .0 .left)))
-    (c .before .if2 .came))
+    let k = c .before in
+    rw (add-sub-cancel n 1, entry (c .before .before .before) .past)
+    (miss (s .args .table .now) (s .args .text .now) n (s .pre) (s .args .name) (passed l) (more (c .before .before .before .before)) (k .is-name-at .result) (keyed k) (c .if2 .left))
 
 returns : tie.Need-returns Inv-loop μ-loop
 returns c =
@@ -94,10 +122,12 @@ lookup-spec =
     Inv-loop
     μ-loop
     read-row-requires
-    add-t10
+    add-t11
     loop-holds
     read-row-requires-2
     is-name-at-requires
     loop-less
     loop-again
+    loop-less-2
+    loop-again-2
     returns)

@@ -16,33 +16,48 @@ put-list-requires : tie.Need-put-list-requires
 put-list-requires c κs = (c .before .before .before .pre .0 .0, room-first (room (c .before .before .before)))
 
 put-list-requires-2 : tie.Need-put-list-requires-2
-put-list-requires-2 c κs = let p = c .before .before .before .put-list in (c .before .before .before .before .before .before .before .pre .0 .1, room-second (room (c .before .before .before .before .before .before .before)) (p .ensures .count) (p .kept .1 .1 .0))
+put-list-requires-2 c κs =
+    let b7 = c .before .before .before .before .before .before .before in
+    let p = c .before .before .before .put-list in (b7 .pre .0 .1, room-second (room b7) (p .ensures .count) (p .kept .1 .1 .0))
 
 put-list-requires-3 : tie.Need-put-list-requires-3
 put-list-requires-3 c κs =
-    let p = c .before .before .before .before .before .before .before .put-list in
+    let b7 = c .before .before .before .before .before .before .before in
+    let b11 = b7 .before .before .before .before in
+    let p = b7 .put-list in
     let q = c .before .before .before .put-list2 in
-    (c .before .before .before .before .before .before .before .before .before .before .before .pre .0 .2, room-third (room (c .before .before .before .before .before .before .before .before .before .before .before)) (p .ensures .count) (q .ensures .count) (p .kept .1 .1 .0) (q .kept .1 .1 .0))
+    (b11 .pre .0 .2, room-third (room b11) (p .ensures .count) (q .ensures .count) (p .kept .1 .1 .0) (q .kept .1 .1 .0))
 
 cast-t16 : tie.Need-cast-t16
-cast-t16 c = fits-first (room (c .before .before .before .before .before .before .before .before .before .before .before .before .before .before)) (c .before .before .before .before .before .before .before .before .before .before .put-list .ensures .count)
+cast-t16 c =
+    let b10 = c .before .before .before .before .before .before .before .before .before .before in
+    let b14 = b10 .before .before .before .before in
+    fits-first (room b14) (b10 .put-list .ensures .count)
 
 sub-t17 : tie.Need-sub-t17
 sub-t17 c = omega (arith, c .before .before .before .before .before .before .put-list2 .ensures .count)
 
 cast-t18 : tie.Need-cast-t18
-cast-t18 c = omega (arith, room (c .before .before .before .before .before .before .before .before .before .before .before .before .before .before) .few, c .before .before .before .before .before .before .before .before .before .before .put-list .ensures .count, c .before .before .before .before .before .before .put-list2 .ensures .count)
+cast-t18 c =
+    let b6 = c .before .before .before .before .before .before in
+    let b10 = b6 .before .before .before .before in
+    let b14 = b10 .before .before .before .before in
+    omega (arith, room b14 .few, b10 .put-list .ensures .count, b6 .put-list2 .ensures .count)
 
 sub-t19 : tie.Need-sub-t19
 sub-t19 c = omega (arith, c .before .before .put-list3 .ensures .count)
 
 cast-t20 : tie.Need-cast-t20
 cast-t20 c =
-    let n = c .before .before .before .before .before .before .before .before .before .before in
-    omega (arith, room (n .before .before .before .before) .few, n .put-list .ensures .count, c .before .before .before .before .before .before .put-list2 .ensures .count, c .before .before .put-list3 .ensures .count)
+    let b6 = c .before .before .before .before .before .before in
+    let n = b6 .before .before .before .before in
+    omega (arith, room (n .before .before .before .before) .few, n .put-list .ensures .count, b6 .put-list2 .ensures .count, c .before .before .put-list3 .ensures .count)
 
 same-length : tie.Need-same-length
-same-length c = c .before .before .put-list3 .kept .1 .1 .0 ∙ c .before .before .before .before .before .before .put-list2 .kept .1 .1 .0 ∙ c .before .before .before .before .before .before .before .before .before .before .put-list .kept .1 .1 .0
+same-length c =
+    let b6 = c .before .before .before .before .before .before in
+    let b10 = b6 .before .before .before .before in
+    c .before .before .put-list3 .kept .1 .1 .0 ∙ b6 .put-list2 .kept .1 .1 .0 ∙ b10 .put-list .kept .1 .1 .0
 
 returns : tie.Need-returns
 returns c =

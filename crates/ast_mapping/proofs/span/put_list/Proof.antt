@@ -38,21 +38,29 @@ whole c = let s = c .before .before .before in row-read (c .read-row .ensures) (
 
 room : (c : tie.Then1 Inv-loop μ-loop) → let l = c .before .before .before in 2 * l .loop .at + 2 ≤ length (l .loop .spans)
 room c =
-    let s = c .before .before .before .before .before .before .before .before .before in
+    let b6 = c .before .before .before .before .before .before in
+    let s = b6 .before .before .before in
     let l = c .before .before .before in
-    place-room (s .args .table .now) (s .args .list .0) (s .args .from) (whole (c .before .before .before .before .before .before) .past) (l .loop .inv .0) (l .loop .inv .2) (s .pre .1) (l .loop .inv .3) (c .if1 .taken)
+    place-room (s .args .table .now) (s .args .list .0) (s .args .from) (whole b6 .past) (l .loop .inv .0) (l .loop .inv .2) (s .pre .1) (l .loop .inv .3) (c .if1 .taken)
 
 near : (c : tie.Then1 Inv-loop μ-loop) → c .before .before .before .loop .at < 2 ^ 60
 near c = span-near (c .before .before .before .loop .at) (room c) (c .before .before .before .loop .inv .3) (long (c .before .before .before .before .before .before .before .before .before))
 
-more : (c : tie.Then1 Inv-loop μ-loop) → let s = c .before .before .before .before .before .before .before .before .before in c .before .before .before .loop .next .0 < word (s .args .table .now) (s .args .list .0) 7
+more : (c : tie.Then1 Inv-loop μ-loop)
+    → let s = c .before .before .before .before .before .before .before .before .before in c .before .before .before .loop .next .0 < word (s .args .table .now) (s .args .list .0) 7
 more c = lt-as (whole (c .before .before .before .before .before .before) .past) (c .if1 .taken)
 
 small : (c : tie.Then1 Inv-loop μ-loop) → c .before .before .before .loop .next .0 < maxNodes
 small c = tabled-small (c .before .before .before .before .before .before .before .before .before .pre .0) (c .before .before .before .loop .next .0) (more c)
 
-string : (c : tie.After-read-row2 Inv-loop μ-loop) → RowRead (c .before .before .before .before .before .before .before .before .before .before .args .table .now) (c .before .before .before .before .loop .next .0) (c .read-row2 .result)
-string c = row-read (c .read-row2 .ensures) (tabled-row (c .before .before .before .before .before .before .before .before .before .before .pre .0) (c .before .before .before .before .loop .next .0) (more (c .before)))
+string : (c : tie.After-read-row2 Inv-loop μ-loop)
+    → let l = c .before .before .before .before in
+    let s = l .before .before .before .before .before .before in
+    RowRead (s .args .table .now) (l .loop .next .0) (c .read-row2 .result)
+string c =
+    let b4 = c .before .before .before .before in
+    let b10 = b4 .before .before .before .before .before .before in
+    row-read (c .read-row2 .ensures) (tabled-row (b10 .pre .0) (b4 .loop .next .0) (more (c .before)))
 
 read-row-requires : tie.Need-read-row-requires Inv-loop μ-loop
 read-row-requires c κs = tt
@@ -70,7 +78,10 @@ read-row-requires-2 : tie.Need-read-row-requires-2 Inv-loop μ-loop
 read-row-requires-2 c κs = tt
 
 cast-spans : tie.Need-cast-spans Inv-loop μ-loop
-cast-spans c = omega (arith, string (c .before) .from, c .before .before .before .before .before .before .before .before .before .before .shared-slice-known .given (rowWords * c .before .before .before .before .before .loop .next .0 + 1))
+cast-spans c =
+    let b5 = c .before .before .before .before .before in
+    let b10 = b5 .before .before .before .before .before in
+    omega (arith, string (c .before) .from, b10 .shared-slice-known .given (rowWords * b5 .loop .next .0 + 1))
 
 mul-spans : tie.Need-mul-spans Inv-loop μ-loop
 mul-spans c = fits-from (near (c .before .before))
@@ -82,7 +93,10 @@ slice-write-spans : tie.Need-slice-write-spans Inv-loop μ-loop
 slice-write-spans c = span-from (c .before .before .before .before .before .loop .at) (room (c .before .before))
 
 cast-spans-2 : tie.Need-cast-spans-2 Inv-loop μ-loop
-cast-spans-2 c = omega (arith, string (c .before .before) .to, c .before .before .before .before .before .before .before .before .before .before .before .shared-slice-known .given (rowWords * c .before .before .before .before .before .before .loop .next .0 + 2))
+cast-spans-2 c =
+    let b6 = c .before .before .before .before .before .before in
+    let b11 = b6 .before .before .before .before .before in
+    omega (arith, string (c .before .before) .to, b11 .shared-slice-known .given (rowWords * b6 .loop .next .0 + 2))
 
 mul-spans-3 : tie.Need-mul-spans-3 Inv-loop μ-loop
 mul-spans-3 c = fits-from (near (c .before .before .before))
@@ -107,15 +121,17 @@ loop-less c = falls _ _ (c .before .before .before .before .if1 .taken)
 
 loop-again : tie.Need-loop-again Inv-loop μ-loop
 loop-again c =
-    let s = c .before .before .before .before .before .before .before .before .before .before .before .before .before in
-    let l = c .before .before .before .before .before .before .before in
+    let b4 = c .before .before .before .before in
+    let l = b4 .before .before .before in
+    let b10 = l .before .before .before in
+    let s = b10 .before .before .before in
     let r = string (c .before .before .before) in (
       turn-later (l .loop .inv .0),
-      add-one-le (c .before .before .before .before .if1 .taken),
+      add-one-le (b4 .if1 .taken),
       place-next (s .args .from) (l .loop .inv .0) (l .loop .inv .2),
       simp length-set (l .loop .inv .3),
       rw (r .from, r .to)
-          (l .loop .inv .4 ∙ put-one (s .args .table .now) (l .loop .spans) (l .loop .next .0) (c .before .before .before .before .before .before .before .before .before .before .read-row .result .past .0) (l .loop .at) (c .before .before .before .before .if1 .taken)),
+          (l .loop .inv .4 ∙ put-one (s .args .table .now) (l .loop .spans) (l .loop .next .0) (b10 .read-row .result .past .0) (l .loop .at) (b4 .if1 .taken)),
     )
 
 same-length : tie.Need-same-length Inv-loop μ-loop

@@ -2,7 +2,6 @@
 use mathlib.Core.Path.{refl, ap, _∙_}
 use Rattle.cel_text.specs.Answer.{Answer}
 use Rattle.cel_policy.specs.Policy.{Counted, noPolicy}
-use Rattle.cel_policy.specs.Answers.{PolicyAnswer}
 use Rattle.parser.specs.Found.{told}
 use Rattle.ast_mapping.proofs.span.settle.Statement.{statement}
 use Rattle.ast_mapping.proofs.span.settle.Tie as tie
@@ -17,13 +16,17 @@ enum-known-mapped : tie.Need-enum-known-mapped
 enum-known-mapped c = c .match .keys2
 
 put-response-requires : tie.Need-put-response-requires
-put-response-requires c κs = let s = c .before .before .before .before .before .before in (rw (c .before .before .mapped .given .1) at (s .pre .0), rw (c .before .before .mapped .given .1) at (s .pre .1))
+put-response-requires c κs =
+    let s = c .before .before .before .before .before .before in
+    (rw (c .before .before .mapped .given .1) at (s .pre .0), rw (c .before .before .mapped .given .1) at (s .pre .1))
 
 enum-known-mapped-2 : tie.Need-enum-known-mapped-2
 enum-known-mapped-2 c = c .match .keys3
 
 put-full-requires : tie.Need-put-full-requires
-put-full-requires c κs = let s = c .before .before .before .before .before .before in (rw (c .before .before .mapped2 .given .1) at (s .pre .0), rw (c .before .before .mapped2 .given .1) at (s .pre .1))
+put-full-requires c κs =
+    let s = c .before .before .before .before .before .before in
+    (rw (c .before .before .mapped2 .given .1) at (s .pre .0), rw (c .before .before .mapped2 .given .1) at (s .pre .1))
 
 enum-known-mapped-3 : tie.Need-enum-known-mapped-3
 enum-known-mapped-3 c = c .match .keys4
