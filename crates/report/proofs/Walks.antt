@@ -14,7 +14,7 @@ use Rattle.page.specs.Page.{shownByte}
 use Rattle.report.specs.declared.window.Side.{Side}
 use Rattle.report.specs.declared.window.Spot.{Spot}
 use Rattle.report.specs.Window.{backFrom, forthFrom, back, forth, betweenText, lastOf, caretText, afterByte, afterBytes}
-use Rattle.report.specs.Node.{wordAt, kindAt, arraysBefore, bracketAt, startOf}
+use Rattle.report.specs.Node.{kindAt, fromAt, arraysBefore, bracketAt, startOf}
 
 -- back from a place
 module _ (x : Text) (room : ℕ) where
@@ -94,10 +94,10 @@ module _ (x : Text) (ws : Words) (node kind : ℕ) (is : kind ≡ kindAt ws node
   unfolding startOf
   start-array before place k b p = rw (← is, k) (p ∙ ap (bracketAt x) b)
 
-  pub start-string : (from place : ℕ) → kind ≡ 1 → from ≡ wordAt ws node 1 → place ≡ min (from - 1) (length x) → place ≡ startOf x ws node
+  pub start-string : (from place : ℕ) → kind ≡ 1 → from ≡ fromAt ws node → place ≡ min (from - 1) (length x) → place ≡ startOf x ws node
   unfolding startOf
   start-string from place k f p = rw (← is, k) (p ∙ ap (λ (n : ℕ). min (n - 1) (length x)) f)
 
-  pub start-other : (from place : ℕ) → (kind ≡ 2 → ⊥) → (kind ≡ 1 → ⊥) → from ≡ wordAt ws node 1 → place ≡ min from (length x) → place ≡ startOf x ws node
+  pub start-other : (from place : ℕ) → (kind ≡ 2 → ⊥) → (kind ≡ 1 → ⊥) → from ≡ fromAt ws node → place ≡ min from (length x) → place ≡ startOf x ws node
   unfolding startOf
   start-other from place a s f p = rw (← is, ne-eqb kind 2 a, ne-eqb kind 1 s) (p ∙ ap (λ (n : ℕ). min n (length x)) f)

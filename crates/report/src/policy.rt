@@ -3,7 +3,7 @@ ghost use mathlib.Core.Path.{_≡_};
 ghost use Prim.Native.Nat.{_≤_, _<_, _+_, _*_, _^_};
 ghost use mathlib.Core.Bool.{cond};
 ghost use mathlib.Core.List.{_++_};
-ghost use lib.ListN.{take};
+ghost use lib.ListN.{getD, take};
 ghost use lib.Dec.{eqb};
 ghost use Rattle.cel_text.specs.Byte.{bytes, stringByte};
 ghost use Rattle.cel_policy.specs.Policy.{numbers};
@@ -14,7 +14,6 @@ ghost use Rattle.pieces.specs.Pieces.{Wrote};
 ghost use Rattle.page.specs.Page.{shown, said};
 ghost use Rattle.report.specs.Policy.{formText, stringText, stringsText, titleText, listText, requestText, listsText, sizeText};
 ghost use Rattle.report.specs.Policy.{canonicalText, policyText};
-use crate::node::word_of;
 use crate::words::put_message;
 use crate::words::put_part;
 use cel_policy::Policy;
@@ -57,6 +56,16 @@ fn put_string(out: &mut [u8], at: usize, text: &[u8], from: u32, to: u32) -> usi
     say(out, end, b"...\", # bytes\n", last - first)
 }
 
+// A word of the span table, 0 past it.
+fn word(spans: &[u32], i: usize) -> u32
+    ensures { λ r. ⌜ r ≡ getD (now (spans .entry)) i 0 ⌝ }
+{
+    if i < spans.len() {
+        return spans[i];
+    }
+    0
+}
+
 // So many strings of the span table, from string `first` on.
 fn put_strings(
     out: &mut [u8],
@@ -72,8 +81,8 @@ fn put_strings(
     let mut end = at;
     let mut i = 0;
     while i < count {
-        let from = word_of(spans, 2 * (first + i));
-        let to = word_of(spans, 2 * (first + i) + 1);
+        let from = word(spans, 2 * (first + i));
+        let to = word(spans, 2 * (first + i) + 1);
         end = put_string(out, end, text, from, to);
         i += 1;
     }

@@ -19,26 +19,26 @@ abbrev μ-loop : tie.MeasureT-loop
 loop-holds : tie.Need-loop-holds Inv-loop μ-loop
 loop-holds c = (wrote-none (c .before .before .before .args .out .now) (c .before .before .before .args .at), omega arith)
 
-add-word-of : tie.Need-add-word-of Inv-loop μ-loop
-add-word-of c = omega arith
+add-word : tie.Need-add-word Inv-loop μ-loop
+add-word c = omega arith
 
-mul-word-of : tie.Need-mul-word-of Inv-loop μ-loop
-mul-word-of c = omega arith
+mul-word : tie.Need-mul-word Inv-loop μ-loop
+mul-word c = omega arith
 
-word-of-requires : tie.Need-word-of-requires Inv-loop μ-loop
-word-of-requires c κs = tt
+word-requires : tie.Need-word-requires Inv-loop μ-loop
+word-requires c κs = tt
 
-add-word-of-2 : tie.Need-add-word-of-2 Inv-loop μ-loop
-add-word-of-2 c = omega arith
+add-word-2 : tie.Need-add-word-2 Inv-loop μ-loop
+add-word-2 c = omega arith
 
-mul-word-of-2 : tie.Need-mul-word-of-2 Inv-loop μ-loop
-mul-word-of-2 c = omega arith
+mul-word-2 : tie.Need-mul-word-2 Inv-loop μ-loop
+mul-word-2 c = omega arith
 
-add-word-of-3 : tie.Need-add-word-of-3 Inv-loop μ-loop
-add-word-of-3 c = omega arith
+add-word-3 : tie.Need-add-word-3 Inv-loop μ-loop
+add-word-3 c = omega arith
 
-word-of-requires-2 : tie.Need-word-of-requires-2 Inv-loop μ-loop
-word-of-requires-2 c κs = tt
+word-requires-2 : tie.Need-word-requires-2 Inv-loop μ-loop
+word-requires-2 c κs = tt
 
 put-string-requires : tie.Need-put-string-requires Inv-loop μ-loop
 put-string-requires c κs = tt
@@ -53,8 +53,8 @@ loop-again : tie.Need-loop-again Inv-loop μ-loop
 loop-again c =
     let s = c .before .before .before .before .before .before .before .before .before .before .before in
     let l = c .before .before .before .before .before .before .before .loop in
-    let f = c .before .before .before .before .before .word-of in
-    let t = c .before .before .before .before .word-of2 in
+    let f = c .before .before .before .before .before .word in
+    let t = c .before .before .before .before .word2 in
     let more = strings-more (s .args .text .now) (s .args .spans .now) (s .args .first) (l .i) (f .result) (t .result) (f .ensures) (t .ensures) in
     (rw (← more) (wrote-then (l .inv .0) (c .before .before .put-string .ensures)), omega arith)
 
@@ -74,13 +74,13 @@ put-strings-spec =
     Inv-loop
     μ-loop
     loop-holds
-    add-word-of
-    mul-word-of
-    word-of-requires
-    add-word-of-2
-    mul-word-of-2
-    add-word-of-3
-    word-of-requires-2
+    add-word
+    mul-word
+    word-requires
+    add-word-2
+    mul-word-2
+    add-word-3
+    word-requires-2
     put-string-requires
     add-i
     loop-less
