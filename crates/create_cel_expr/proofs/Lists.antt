@@ -1,10 +1,12 @@
 -- The strings of a list one after the other, as they are written and as their lengths are added up. Assumes nothing.
 use mathlib.Core.Path.{_≡_, sym, ap, subst, _∙_}
-use Prim.Native.Nat.{ℕ, suc, _+_, _*_, _-_, _≤_, _<_, min}
-use native.Mathlib.Nat.{zero-add}
+use Prim.Native.Nat.{ℕ, suc, _+_, _*_, _-_, _≤_, _<_}
+use native.Mathlib.Nat.{zero-add, add-zero, sub-zero}
 use native.Mathlib.Omega.{arith}
 use mathlib.Core.List.{List, [], _∷_, _++_, append-assoc, append-nil}
 use lib.ListN.{length, length-map}
+use lib.Seq.{length-slice}
+use lib.Dec.{lit≤}
 use Rattle.cel_text.specs.Byte.{Text, bytes}
 use Rattle.cel_text.specs.Table.{Words}
 use Rattle.cel_policy.specs.Policy.{Counted, stringCount, content}
@@ -14,7 +16,7 @@ use Rattle.cel_policy.specs.Laws.SpanTable.{length-spansAt}
 use Rattle.cel_policy.specs.Laws.Judging.{SpanInside, SpansInside}
 use Rattle.pieces.specs.Pieces.{Wrote}
 use Rattle.pieces.specs.Laws.{wrote-none, wrote-then}
-use Rattle.create_cel_expr.specs.Given.{stringsAt, tooLong}
+use Rattle.create_cel_expr.specs.Given.{stringsAt, wordSize}
 
 -- strings after another one
 abbrev pub tails : List Text → Text
@@ -78,19 +80,28 @@ module _ (x : Text) (ws : Words) (begin count : ℕ) where
 
   -- ---- added up
 
-  -- what the sum so far and the strings that are left come to, after a turn and at the end
-  pub total-turn :
-      (i sofar long : ℕ) {next all : ℕ} → i < count → long ≡ length (content x (spanAt ws (begin + i))) → next ≡ min tooLong (sofar + long)
-      → min tooLong (sofar + total (leftOf i)) ≡ all → (next ≤ tooLong) × (min tooLong (next + total (leftOf (i + 1))) ≡ all)
-  total-turn i sofar long h el en e = (omega arith, omega (arith, ap total (left-next i h)))
+  -- the sum so far and the strings that are left come to all of them, and no string passes a word
+  pub record Summed (sofar i : ℕ) : Type 0 where
+    pub whole : sofar + total (leftOf i) ≡ total (stringsAt x ws count begin)
+    pub few : sofar ≤ wordSize * i
+    pub within : i ≤ count
 
-  pub total-end : {i all : ℕ} (sofar : ℕ) → count ≤ i → sofar ≤ tooLong → min tooLong (sofar + total (leftOf i)) ≡ all → sofar ≡ all
-  total-end {i = i} sofar h l e = omega (arith, ap total (left-none i h))
+  pub string-short : {i : ℕ} {s : Text} → SpanInside ws x i → spanAt ws i .to ≤ wordSize → s ≡ content x (spanAt ws i) → length s ≤ wordSize
+  string-short {i = i} h l e = omega (arith, ap length e, length-slice (spanAt ws i .from) (spanAt ws i .to) x (h .inText))
+
+  pub summed-none : Summed 0 0
+  summed-none = record { whole = rw (sub-zero, add-zero) (zero-add _); few = lit≤ tt; within = omega arith }
+
+  pub summed-next : {sofar i long : ℕ} → i < count → long ≡ length (content x (spanAt ws (begin + i))) → long ≤ wordSize → Summed sofar i → Summed (sofar + long) (i + 1)
+  summed-next {i = i} h e l s = record { whole = omega (arith, ap total (left-next i h), s .whole); few = omega (arith, s .few); within = omega arith }
+
+  pub summed-all : {sofar i : ℕ} → count ≤ i → Summed sofar i → sofar ≡ total (stringsAt x ws count begin)
+  summed-all {i = i} h s = omega (arith, ap total (left-none i h), s .whole)
 
   pub list-zero : count ≡ 0 → listLength (stringsAt x ws count begin) ≡ 0
   list-zero e = rw e
 
-  pub list-some : (count ≡ 0 → ⊥) → listLength (stringsAt x ws count begin) ≡ total (stringsAt x ws count begin) + (3 * count - 1)
+  pub list-some : (count ≡ 0 → ⊥) → listLength (stringsAt x ws count begin) ≡ total (stringsAt x ws count begin) + 3 * count - 1
   list-some n =
       let long : length (leftOf 1) ≡ count - 1 = simp (length-map, length-spansAt) in
       ap listLength (left-first n) ∙ (rw (left-first n) (omega (arith, long, n)))

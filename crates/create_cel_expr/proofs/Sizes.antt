@@ -1,6 +1,6 @@
 -- The length that was measured is the printed text's, and decides what is printed. Assumes nothing.
 use mathlib.Core.Path.{_≡_, refl, ap, _∙_}
-use Prim.Native.Nat.{ℕ, _+_, _≤_, _<_, min}
+use Prim.Native.Nat.{ℕ, _+_, _≤_, _<_}
 use native.Mathlib.Nat.{zero-add}
 use native.Mathlib.Omega.{arith}
 use mathlib.Core.List.{_++_}
@@ -15,21 +15,20 @@ use Rattle.cel_policy.specs.Laws.Lengths.{length-printed}
 use Rattle.cel_policy.specs.Laws.Entries.{sized-fits}
 use Rattle.pieces.specs.Pieces.{Wrote}
 use Rattle.pieces.specs.Laws.{wrote-whole}
-use Rattle.create_cel_expr.specs.Given.{tooLong}
 
 -- ---- the length of each form
 module _ (p : Policy Text) where
-  pub length-skip : p .form ≡ skip → 63 ≡ min tooLong (printedLength p)
+  pub length-skip : p .form ≡ skip → 63 ≡ printedLength p
   unfolding printedLength
   length-skip e = rw (eq-eqb (p .form) skip e)
 
-  pub length-response-only : p .form ≡ responseOnly → {r : ℕ} → r ≡ min tooLong (204 + listLength (p .responseHeaders)) → r ≡ min tooLong (printedLength p)
+  pub length-response-only : p .form ≡ responseOnly → {r : ℕ} → r ≡ listLength (p .responseHeaders) → 204 + r ≡ printedLength p
   unfolding printedLength
-  length-response-only e h = rw (ne-eqb (p .form) skip (λ f. omega arith), eq-eqb (p .form) responseOnly e) h
+  length-response-only e h = rw (ne-eqb (p .form) skip (λ f. omega arith), eq-eqb (p .form) responseOnly e, h)
 
   pub length-full :
-      (p .form ≡ skip → ⊥) → (p .form ≡ responseOnly → ⊥) → {a b r : ℕ} → a ≡ min tooLong (274 + listLength (p .requestHeaders))
-      → b ≡ min tooLong (a + listLength (p .queryParameters)) → r ≡ min tooLong (b + listLength (p .responseHeaders)) → r ≡ min tooLong (printedLength p)
+      (p .form ≡ skip → ⊥) → (p .form ≡ responseOnly → ⊥) → {a b r : ℕ} → a ≡ listLength (p .requestHeaders) → b ≡ listLength (p .queryParameters)
+      → r ≡ listLength (p .responseHeaders) → 274 + a + b + r ≡ printedLength p
   unfolding printedLength
   length-full n m ea eb er = rw (ne-eqb (p .form) skip n, ne-eqb (p .form) responseOnly m) (omega (arith, ea, eb, er))
 
@@ -47,7 +46,7 @@ sized-24 t room h r = rw (le-ltb maxText (length t) h, lt-ltb room (length t) r)
 abbrev pub Gave : PrintAnswer → (out out′ : Text) → Printing → Type 0
 Gave a out out′ w = (a ≡ printAnswered w) × (out′ ≡ output w out)
 
-module _ (p : Policy Text) (out : Text) {n : ℕ} (measured : n ≡ min tooLong (printedLength p)) where
+module _ (p : Policy Text) (out : Text) {n : ℕ} (measured : n ≡ printedLength p) where
   long : length (printed p) ≡ printedLength p
   long = length-printed p
 

@@ -1,9 +1,8 @@
 -- What the caller gives and gets, in the terms of `cel_policy`. Assumes nothing.
-use Prim.Native.Nat.{ℕ, suc}
+use Prim.Native.Nat.{ℕ}
 use mathlib.Core.List.{List, map}
 use Rattle.cel_text.specs.Byte.{Text}
 use Rattle.cel_text.specs.Table.{Words}
-use Rattle.cel_text.specs.Answer.{maxText}
 use Rattle.cel_policy.specs.Policy
 use Rattle.cel_policy.specs.Policy.{content, strings, numbers}
 use Rattle.cel_policy.specs.Spans.{spansAt}
@@ -22,6 +21,6 @@ stringsAt x ws n i = map (content x) (spansAt ws n i)
 abbrev pub policyOf : Policy → Text → Words → Policy.Policy Text
 policyOf p x ws = strings x (placed (numbers p) ws)
 
--- the least length that is not printed: no text is measured further
-abbrev pub tooLong : ℕ
-tooLong = suc maxText
+-- how many numbers a word of a table can be
+abbrev pub wordSize : ℕ
+wordSize = 4294967296

@@ -1,62 +1,50 @@
-// How long the printed text is, before any of it is written. Spans may overlap, so a sum can pass any number: each stops one past what may be printed.
+// How long the printed text is, before any of it is written. A span's ends are words, so the few strings of a policy never come to more than a number holds.
 ghost use mathlib.Core.Path.{_≡_};
-ghost use Prim.Native.Nat.{_+_, _≤_, min};
+ghost use Prim.Native.Nat.{_+_, _*_, _≤_};
 ghost use Rattle.cel_policy.specs.Policy.{stringCount, numbers};
 ghost use Rattle.cel_policy.specs.Printed.{total, listLength, printedLength, maxResponseOnly};
 ghost use Rattle.cel_policy.specs.Laws.Judging.{SpansInside};
-ghost use Rattle.create_cel_expr.specs.Given.{stringsAt, policyOf, tooLong};
+ghost use Rattle.create_cel_expr.specs.Given.{stringsAt, policyOf, wordSize};
 use crate::span;
 use cel_policy::Policy;
 use cel_policy::RESPONSE_ONLY;
 use cel_policy::SKIP;
-use parser::MAX_TEXT;
 
-const TOO_LONG: usize = MAX_TEXT + 1;
-
-// The sum, or `TOO_LONG` where it is more.
-fn sum(a: usize, b: usize) -> usize
-    requires { ⌜ a ≤ tooLong ⌝ }
-    ensures { λ r. ⌜ r ≡ min tooLong (a + b) ⌝ }
-{
-    if TOO_LONG - a < b {
-        return TOO_LONG;
-    }
-    a + b
-}
-
-// The strings from string `begin` on, `count` of them, after `before` bytes.
-fn strings(text: &[u8], spans: &[u32], begin: usize, count: usize, before: usize) -> usize
+// The strings from string `begin` on, `count` of them.
+fn strings(text: &[u8], spans: &[u32], begin: usize, count: usize) -> usize
     requires { ⌜ SpansInside (now spans) (now text) count begin ⌝ }
-    requires { ⌜ before ≤ tooLong ⌝ }
-    ensures { λ r. ⌜ r ≡ min tooLong (before + total (stringsAt (now (text .entry)) (now (spans .entry)) count begin)) ⌝ }
+    requires { ⌜ count ≤ maxResponseOnly ⌝ }
+    ensures long { λ r. ⌜ r ≡ total (stringsAt (now (text .entry)) (now (spans .entry)) count begin) ⌝ }
+    ensures few { λ r. ⌜ r ≤ wordSize * count ⌝ }
 {
-    let mut length = before;
+    let mut length = 0;
     let mut i = 0;
     while i < count {
         let string = span::string(text, spans, begin + i);
-        length = sum(length, string.len());
+        length += string.len();
         i += 1;
     }
     length
 }
 
-// A list's text, after `before` bytes.
-fn list(text: &[u8], spans: &[u32], begin: usize, count: usize, before: usize) -> usize
+// A list's text.
+fn list(text: &[u8], spans: &[u32], begin: usize, count: usize) -> usize
     requires { ⌜ SpansInside (now spans) (now text) count begin ⌝ }
-    requires { ⌜ (before ≤ tooLong) × (count ≤ maxResponseOnly) ⌝ }
-    ensures { λ r. ⌜ r ≡ min tooLong (before + listLength (stringsAt (now (text .entry)) (now (spans .entry)) count begin)) ⌝ }
+    requires { ⌜ count ≤ maxResponseOnly ⌝ }
+    ensures long { λ r. ⌜ r ≡ listLength (stringsAt (now (text .entry)) (now (spans .entry)) count begin) ⌝ }
+    ensures few { λ r. ⌜ r ≤ (wordSize + 3) * count ⌝ }
 {
     if count == 0 {
-        return before;
+        return 0;
     }
-    sum(strings(text, spans, begin, count, before), 3 * count - 1)
+    strings(text, spans, begin, count) + 3 * count - 1
 }
 
 // The whole text.
 pub(crate) fn printed_length(policy: Policy, text: &[u8], spans: &[u32]) -> usize
     requires { ⌜ SpansInside (now spans) (now text) (stringCount (numbers policy)) 0 ⌝ }
     requires { ⌜ stringCount (numbers policy) ≤ maxResponseOnly ⌝ }
-    ensures { λ r. ⌜ r ≡ min tooLong (printedLength (policyOf policy (now (text .entry)) (now (spans .entry)))) ⌝ }
+    ensures { λ r. ⌜ r ≡ printedLength (policyOf policy (now (text .entry)) (now (spans .entry))) ⌝ }
 {
     let form = policy.form;
     let request = policy.request as usize;
@@ -65,10 +53,9 @@ pub(crate) fn printed_length(policy: Policy, text: &[u8], spans: &[u32]) -> usiz
     if form == SKIP {
         return 63;
     }
+    let headers = list(text, spans, span::response(policy), response);
     if form == RESPONSE_ONLY {
-        return list(text, spans, span::response(policy), response, 204);
+        return 204 + headers;
     }
-    let headers = list(text, spans, 0, request, 274);
-    let parameters = list(text, spans, request, query, headers);
-    list(text, spans, span::response(policy), response, parameters)
+    274 + list(text, spans, 0, request) + list(text, spans, request, query) + headers
 }

@@ -63,23 +63,6 @@ fn list(out: &mut [u8], at: usize, text: &[u8], spans: &[u32], begin: usize, cou
     last(out, past)
 }
 
-// A list after what stands before it.
-fn titled(
-    out: &mut [u8],
-    at: usize,
-    title: &[u8],
-    text: &[u8],
-    spans: &[u32],
-    begin: usize,
-    count: usize,
-) -> usize
-    requires { ⌜ SpansInside (now spans) (now text) count begin ⌝ }
-    ensures { λ r. ⌜ Wrote (now (out .entry)) (now (out .exit)) at r (now (title .entry) ++ listText (stringsAt (now (text .entry)) (now (spans .entry)) count begin)) ⌝ }
-{
-    let past = pieces::put(out, at, title);
-    list(out, past, text, spans, begin, count)
-}
-
 // The request part, which only Full has.
 fn create_request_cel_expr(
     out: &mut [u8],
@@ -93,24 +76,14 @@ fn create_request_cel_expr(
 {
     let request = policy.request as usize;
     let query = policy.query as usize;
-    let headers = titled(
+    let opened = pieces::put(
         out,
         at,
         b"request_certification:RequestCertification{certified_request_headers:[",
-        text,
-        spans,
-        0,
-        request,
     );
-    let parameters = titled(
-        out,
-        headers,
-        b"],certified_query_parameters:[",
-        text,
-        spans,
-        request,
-        query,
-    );
+    let headers = list(out, opened, text, spans, 0, request);
+    let between = pieces::put(out, headers, b"],certified_query_parameters:[");
+    let parameters = list(out, between, text, spans, request, query);
     pieces::put(out, parameters, b"]},")
 }
 
@@ -138,15 +111,8 @@ fn create_response_cel_expr(
     let begin = span::response(policy);
     let opened = pieces::put(out, at, b"response_certification:ResponseCertification{");
     let keyed = list_key(out, opened, policy.kind);
-    let headers = titled(
-        out,
-        keyed,
-        b":ResponseHeaderList{headers:[",
-        text,
-        spans,
-        begin,
-        policy.response as usize,
-    );
+    let listed = pieces::put(out, keyed, b":ResponseHeaderList{headers:[");
+    let headers = list(out, listed, text, spans, begin, policy.response as usize);
     pieces::put(out, headers, b"]}}")
 }
 

@@ -1,4 +1,5 @@
 -- `measure::list` meets its contract: the strings, and three bytes for each but one. Assumes nothing.
+use mathlib.Core.Path.{sym}
 use Rattle.create_cel_expr.proofs.Lists.{list-zero, list-some}
 use borrow.Author.Needs.{needs}
 use Rattle.create_cel_expr.proofs.measure.list.Statement.{statement}
@@ -8,24 +9,25 @@ use native.Mathlib.Omega.{arith}
 returns : tie.Need-returns
 returns c =
     let a = c .before .before .before .args in
-    omega (arith, list-zero (a .text .now) (a .spans .now) (a .begin) (a .count) (c .if1 .taken))
+    (sym (list-zero (a .text .now) (a .spans .now) (a .begin) (a .count) (c .if1 .taken)), omega arith)
 
 strings-requires : tie.Need-strings-requires
 strings-requires c κs = search needs
 
-mul-sum : tie.Need-mul-sum
-mul-sum c = search needs
+mul-result : tie.Need-mul-result
+mul-result c = search needs
 
-sub-sum : tie.Need-sub-sum
-sub-sum c = search needs
+add-result : tie.Need-add-result
+add-result c = search needs
 
-sum-requires : tie.Need-sum-requires
-sum-requires c κs = search needs
+sub-result : tie.Need-sub-result
+sub-result c = search needs
 
 returns-2 : tie.Need-returns-2
 returns-2 c =
-    let a = c .before .before .before .before .before .args in
-    omega (arith, c .sum .ensures, c .before .strings .ensures, list-some (a .text .now) (a .spans .now) (a .begin) (a .count) (c .before .before .if1 .left))
+    let a = c .before .before .before .before .args in
+    (omega (arith, c .strings .ensures, list-some (a .text .now) (a .spans .now) (a .begin) (a .count) (c .before .if1 .left)), omega (arith, c .strings .ensures))
 
 pub list-spec : {M : Type 1} → statement M
-list-spec = tie.close (tie.spec returns strings-requires mul-sum sub-sum sum-requires returns-2)
+list-spec =
+    tie.close (tie.spec returns strings-requires mul-result add-result sub-result returns-2)

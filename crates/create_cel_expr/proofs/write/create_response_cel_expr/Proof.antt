@@ -1,4 +1,4 @@
--- `write::create_response_cel_expr` meets its contract: four pieces, one after the other. Assumes nothing.
+-- `write::create_response_cel_expr` meets its contract: five pieces, one after the other. Assumes nothing.
 use mathlib.Core.Path.{sym}
 use Rattle.cel_policy.specs.Policy.{numbers}
 use Rattle.cel_policy.specs.Printed.{responseText}
@@ -21,23 +21,26 @@ put-requires c κs = search needs
 list-key-requires : tie.Need-list-key-requires
 list-key-requires c κs = search needs
 
-slice-aggregate-titled : tie.Need-slice-aggregate-titled
-slice-aggregate-titled c = search needs
-
-cast-titled : tie.Need-cast-titled
-cast-titled c = search needs
-
-titled-requires : tie.Need-titled-requires
-titled-requires c κs =
-    let s = c .before .before .before .before .before .before .before .before .before .before .before .before .before .before .before .before in
-    let b = c .before .before .before .before .before .before .before .before .before .before .before .before .response in
-    inside-part (numbers (s .args .policy)) (s .pre) (b .result) (s .args .policy .response) (omega (arith, b .ensures))
-
 slice-aggregate-put-2 : tie.Need-slice-aggregate-put-2
 slice-aggregate-put-2 c = search needs
 
 put-requires-2 : tie.Need-put-requires-2
 put-requires-2 c κs = search needs
+
+cast-list : tie.Need-cast-list
+cast-list c = search needs
+
+list-requires : tie.Need-list-requires
+list-requires c κs =
+    let s = c .before .before .before .before .before .before .before .before .before .before .before .before .before .before .before .before .before .before .before .before in
+    let b = c .before .before .before .before .before .before .before .before .before .before .before .before .before .before .before .before .response in
+    inside-part (numbers (s .args .policy)) (s .pre) (b .result) (s .args .policy .response) (omega (arith, b .ensures))
+
+slice-aggregate-put-3 : tie.Need-slice-aggregate-put-3
+slice-aggregate-put-3 c = search needs
+
+put-requires-3 : tie.Need-put-requires-3
+put-requires-3 c κs = search needs
 
 same-length : tie.Need-same-length
 same-length c = search needs
@@ -45,11 +48,13 @@ same-length c = search needs
 returns : tie.Need-returns
 unfolding responseText
 returns c =
-    let l = c .before .before .before .before .before .before .before .titled in
-    let k = c .before .before .before .before .before .before .before .before .before .before .before .before .before .list-key in
-    let o = c .before .before .before .before .before .before .before .before .before .before .before .before .before .before .before .before .before .put in
-    let b = c .before .before .before .before .before .before .before .before .before .before .before .before .before .before .before .before .before .before .before .before .response in
-    rw (sym (b .ensures)) (wrote-then (o .ensures) (wrote-then (k .ensures) (wrote-then (l .ensures) (c .before .before .put2 .ensures))))
+    let l = c .before .before .before .before .before .before .before in
+    let t = l .before .before .before .before .before in
+    let k = t .before .before .before .before .before in
+    let o = k .before .before .before .before in
+    let b = o .before .before .before in
+    rw (sym (b .response .ensures))
+    (wrote-then (o .put .ensures) (wrote-then (k .list-key .ensures) (wrote-then (t .put2 .ensures) (wrote-then (l .list .ensures) (c .before .before .put3 .ensures)))))
 
 pub create-response-cel-expr-spec : {M : Type 1} → statement M
 create-response-cel-expr-spec =
@@ -59,10 +64,11 @@ create-response-cel-expr-spec =
     slice-aggregate-put
     put-requires
     list-key-requires
-    slice-aggregate-titled
-    cast-titled
-    titled-requires
     slice-aggregate-put-2
     put-requires-2
+    cast-list
+    list-requires
+    slice-aggregate-put-3
+    put-requires-3
     same-length
     returns)
