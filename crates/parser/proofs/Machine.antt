@@ -69,7 +69,7 @@ pub sees : (st : State) (x : Text) (p : ℕ) {s : Step} → does st p (getD x p 
 sees st x p e = look st x p ∙ ap (λ (s : Step). goesOn s x p) e
 
 -- two states in which the byte at this place does the same
-pub same-here : (st st′ : State) (x : Text) (p : ℕ) → does st p (getD x p 0) ≡ does st′ p (getD x p 0) → reads st x p ≡ reads st′ x p
+same-here : (st st′ : State) (x : Text) (p : ℕ) → does st p (getD x p 0) ≡ does st′ p (getD x p 0) → reads st x p ≡ reads st′ x p
 same-here st st′ x p e = sees st x p e ∙ sym (look st′ x p)
 
 -- a state that a class of bytes leaves as it is reads a run of them

@@ -16,7 +16,7 @@ set-sets [] l i j a h = refl
 set-sets (b ∷ vs) l i j a h = set-sets vs (set l i b) (suc i) j a (omega arith) ∙ ap (λ (w : Words). sets w (suc i) vs) (set-comm l i j b a (λ e. omega arith))
 
 -- words before the place of others may be put first
-pub sets-before : (vs ws l : Words) (i j : ℕ) → j + length ws ≤ i → sets (sets l i vs) j ws ≡ sets (sets l j ws) i vs
+sets-before : (vs ws l : Words) (i j : ℕ) → j + length ws ≤ i → sets (sets l i vs) j ws ≡ sets (sets l j ws) i vs
 sets-before vs [] l i j h = refl
 sets-before vs (a ∷ ws) l i j h = ap (λ (w : Words). sets w (suc j) ws) (set-sets vs l i j a (omega arith)) ∙ sets-before vs ws (set l j a) i (suc j) (omega arith)
 

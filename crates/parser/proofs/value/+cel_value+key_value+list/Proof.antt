@@ -107,7 +107,7 @@ cel-value-entered t c =
     let h = c .before .before .before .opening .result in
     subst (λ (s : Pass). Opens (h .kind) (h .at .0) (a .node .0) (a .left) s) (c .inner .given .1) (c .before .before .enter .ensures)
 
--- the key, where there is one or none is due
+-- what `label` found, where it did not refuse
 key-value-keyed : (t : ℕ) (c : key-value-lts.After-key (key-value-claims t) (key-value-at t) key-value.Post)
     → let a = c .before .before .before .before .before .args in
     Keyed (a .text .now) (kindOf (a .kind)) (a .at .0) (c .key .given .0 .0)
