@@ -73,39 +73,67 @@ abbrev list-below : ℕ → In 2 list-kinds.ps
 list-below t = and 2 list-kinds.ps (falls 2 list-kinds.ps _<_ μ-list t) list.Pre
 
 abbrev cel-value-claims : ℕ → cel-value-lts.Claims
-cel-value-claims t = (opening-reads.Asked, opening-reads.Learnt, enter-reads.Asked, enter-reads.Learnt, string-reads.Asked, string-reads.Learnt, open-row-reads.Asked, open-row-reads.Learnt, list-below t, list.Post)
+cel-value-claims t =
+    (opening-reads.Asked, opening-reads.Learnt, enter-reads.Asked, enter-reads.Learnt, string-reads.Asked, string-reads.Learnt, open-row-reads.Asked, open-row-reads.Learnt, list-below t, list.Post)
 
 abbrev key-value-claims : ℕ → key-value-lts.Claims
 key-value-claims t = (label-reads.Asked, label-reads.Learnt, cel-value-below t, cel-value.Post)
 
 abbrev list-claims : ℕ → list-lts.Claims
-list-claims t = (closer-byte-reads.Asked, closer-byte-reads.Learnt, run-of-reads.Asked, run-of-reads.Learnt, peek-reads.Asked, peek-reads.Learnt, close-row-reads.Asked, close-row-reads.Learnt, under-reads.Asked, under-reads.Learnt, key-value-below t, key-value.Post, deeper-reads.Asked, deeper-reads.Learnt)
+list-claims t = (
+  closer-byte-reads.Asked,
+  closer-byte-reads.Learnt,
+  run-of-reads.Asked,
+  run-of-reads.Learnt,
+  peek-reads.Asked,
+  peek-reads.Learnt,
+  close-row-reads.Asked,
+  close-row-reads.Learnt,
+  under-reads.Asked,
+  under-reads.Learnt,
+  key-value-below t,
+  key-value.Post,
+  deeper-reads.Asked,
+  deeper-reads.Learnt,
+)
 
 -- what `enter` found, where it let the opener pass
 cel-value-entered : (t : ℕ) (c : cel-value-lts.After-inner (cel-value-claims t) (cel-value-at t) cel-value.Post)
-    → Entered (c .before .before .before .opening .result .kind) (c .before .before .before .opening .result .at .0) (c .before .before .before .before .before .before .args .node .0) (c .before .before .before .before .before .before .args .left) (c .inner .given .0 .0 .0)
+    → let a = c .before .before .before .before .before .before .args in
+    let h = c .before .before .before .opening .result in
+    Entered (h .kind) (h .at .0) (a .node .0) (a .left) (c .inner .given .0 .0 .0)
 cel-value-entered t c =
-    subst (λ (s : Pass). Opens (c .before .before .before .opening .result .kind) (c .before .before .before .opening .result .at .0) (c .before .before .before .before .before .before .args .node .0) (c .before .before .before .before .before .before .args .left) s) (c .inner .given .1) (c .before .before .enter .ensures)
+    let a = c .before .before .before .before .before .before .args in
+    let h = c .before .before .before .opening .result in
+    subst (λ (s : Pass). Opens (h .kind) (h .at .0) (a .node .0) (a .left) s) (c .inner .given .1) (c .before .before .enter .ensures)
 
--- the key, where there is one or none is due
+-- what `label` found, where it did not refuse
 key-value-keyed : (t : ℕ) (c : key-value-lts.After-key (key-value-claims t) (key-value-at t) key-value.Post)
-    → Keyed (c .before .before .before .before .before .args .text .now) (kindOf (c .before .before .before .before .before .args .kind)) (c .before .before .before .before .before .args .at .0) (c .key .given .0 .0)
-key-value-keyed t c = subst (λ (s : Labelled). Labels (c .before .before .before .before .before .args .text .now) (c .before .before .before .before .before .args .at .0) (kindOf (c .before .before .before .before .before .args .kind)) s) (c .key .given .1) (c .before .before .label .ensures)
+    → let a = c .before .before .before .before .before .args in
+    Keyed (a .text .now) (kindOf (a .kind)) (a .at .0) (c .key .given .0 .0)
+key-value-keyed t c =
+    let a = c .before .before .before .before .before .args in
+    subst (λ (s : Labelled). Labels (a .text .now) (a .at .0) (kindOf (a .kind)) s) (c .key .given .1) (c .before .before .label .ensures)
 
 abbrev list-Inv-loop : list-lts.InvT-loop
-list-Inv-loop text table₀ node kind left close from₀ next₀ parent count₀ depth₀ table from next count depth = Due-child text table₀ table (from₀ .0) (node .0) (kindOf kind) left (from .0) (next .0) count depth
+list-Inv-loop text table₀ node kind left close from₀ next₀ parent count₀ depth₀ table from next count depth =
+    Due-child text table₀ table (from₀ .0) (node .0) (kindOf kind) left (from .0) (next .0) count depth
 
 abbrev list-μ-loop : list-lts.MeasureT-loop
 list-μ-loop text table₀ node kind left close from₀ next₀ parent count₀ depth₀ table from next count depth = length text - from .0
 
 -- the first byte of the list that is no blank stands within the text
-list-first : (t : ℕ) (c : list-lts.After-run-of (list-claims t) (list-at t) list.Post list-Inv-loop list-μ-loop) → c .run-of .result .0 ≤ length (c .before .before .before .before .args .text .now)
-list-first t c = rw (c .run-of .ensures) (end-within blank (c .before .before .before .before .args .text .now) (c .before .before .before .before .args .at .0) (c .before .before .before .before .pre .1 .inside))
+list-first : (t : ℕ) (c : list-lts.After-run-of (list-claims t) (list-at t) list.Post list-Inv-loop list-μ-loop)
+    → c .run-of .result .0 ≤ length (c .before .before .before .before .args .text .now)
+list-first t c =
+    let a = c .before .before .before .before .args in
+    rw (c .run-of .ensures) (end-within blank (a .text .now) (a .at .0) (c .before .before .before .before .pre .1 .inside))
 
 -- from the list as read from that byte to the list as read from its opener
 list-whole : (t : ℕ) (c : list-lts.After-run-of (list-claims t) (list-at t) list.Post list-Inv-loop list-μ-loop) (w : Words) (s : Step)
-    → Listed (c .before .before .before .before .args .text .now) (c .before .before .before .before .args .table .now) w (c .run-of .result .0) (c .before .before .before .before .args .node .0) (c .before .before .before .before .args .kind) (c .before .before .before .before .args .left) s
-    → Listed (c .before .before .before .before .args .text .now) (c .before .before .before .before .args .table .now) w (c .before .before .before .before .args .at .0) (c .before .before .before .before .args .node .0) (c .before .before .before .before .args .kind) (c .before .before .before .before .args .left) s
+    → let a = c .before .before .before .before .args in
+    Listed (a .text .now) (a .table .now) w (c .run-of .result .0) (a .node .0) (a .kind) (a .left) s
+    → Listed (a .text .now) (a .table .now) w (a .at .0) (a .node .0) (a .kind) (a .left) s
 list-whole t c w s v =
     let a = c .before .before .before .before .args in
     let r = c .run-of in
@@ -114,24 +142,49 @@ list-whole t c w s v =
 
 -- the child, where it was read
 list-child : (t : ℕ) (c : list-lts.After-step (list-claims t) (list-at t) list.Post list-Inv-loop list-μ-loop)
-    → WholeChild (kindOf (c .before .before .before .before .before .before .before .before .before .before .before .before .before .before .before .args .kind)) (c .before .before .before .before .before .before .before .before .before .before .before .before .before .before .before .args .text .now) (c .before .before .before .before .before .before .loop .table) (c .before .before .before .before .key-value .last .1 .0) (c .before .before .before .before .before .before .loop .from .0) (c .before .before .before .before .before .before .loop .next .0) (c .before .before .before .before .before .before .before .before .before .before .before .before .before .before .before .args .left) (c .before .before .before .before .before .before .before .under .result .0) (c .step .given .0 .0)
-list-child t c = whole-by (c .before .before .before .before .before .before .before .before .before .before .before .before .before .before .before .args .kind) (c .before .before .before .before .before .before .loop .inv) (c .before .before .before .before .key-value .last .1 .0) (c .before .before .before .before .before .before .before .under .result .0) (c .step .given .1) (c .before .before .before .before .key-value .ensures)
+    → let a = c .before .before .before .before .before .before .before .before .before .before .before .before .before .before .before .args in
+    let l = c .before .before .before .before .before .before .loop in
+    WholeChild (kindOf (a .kind)) (a .text .now) (l .table) (c .before .before .before .before .key-value .last .1 .0) (l .from .0) (l .next .0) (a .left)
+    (c .before .before .before .before .before .before .before .under .result .0) (c .step .given .0 .0)
+list-child t c =
+    let s = c .before .before .before .before in
+    let v = s .key-value in
+    whole-by (s .before .before .before .before .before .before .before .before .before .before .before .args .kind) (s .before .before .loop .inv) (v .last .1 .0)
+    (s .before .before .before .under .result .0) (c .step .given .1) (v .ensures)
 
 -- the list with that child
 list-read : (t : ℕ) (c : list-lts.After-deeper (list-claims t) (list-at t) list.Post list-Inv-loop list-μ-loop)
-    → Read-child (c .before .before .before .before .before .before .before .before .before .before .before .before .before .before .before .before .before .before .args .text .now) (c .before .before .before .before .before .before .before .before .before .before .before .before .before .before .before .before .before .before .args .table .now) (c .before .before .before .before .before .before .before .key-value .last .1 .0) (c .before .before .before .before .before .before .before .before .before .before .before .before .before .before .run-of .result .0) (c .before .before .before .before .before .before .before .before .before .before .before .before .before .before .before .before .before .before .args .node .0) (kindOf (c .before .before .before .before .before .before .before .before .before .before .before .before .before .before .before .before .before .before .args .kind)) (c .before .before .before .before .before .before .before .before .before .before .before .before .before .before .before .before .before .before .args .left)
-    (c .before .before .before .step .given .0 .0 .end .0) (c .before .before .before .step .given .0 .0 .next .0) (c .before .before .before .before .before .before .before .before .before .loop .count + 1) (c .deeper .result)
-list-read t c = child-read (c .before .before .before .before .before .before .before .before .before .loop .inv) (c .before .before .before .before .before .before .before .before .before .before .under .ensures) (c .deeper .ensures) (list-child t (c .before .before .before))
+    → let a = c .before .before .before .before .before .before .before .before .before .before .before .before .before .before .before .before .before .before .args in
+    let r = c .before .before .before .step .given .0 .0 in
+    let w = c .before .before .before .before .before .before .before .key-value .last .1 .0 in
+    let p = c .before .before .before .before .before .before .before .before .before .before .before .before .before .before .run-of .result .0 in
+    Read-child (a .text .now) (a .table .now) w p (a .node .0) (kindOf (a .kind)) (a .left) (r .end .0) (r .next .0)
+    (c .before .before .before .before .before .before .before .before .before .loop .count + 1) (c .deeper .result)
+list-read t c =
+    let l = c .before .before .before .before .before .before .before .before .before .loop in
+    child-read (l .inv) (c .before .before .before .before .before .before .before .before .before .before .under .ensures) (c .deeper .ensures) (list-child t (c .before .before .before))
 
 -- the blanks after it end within the text
-list-stop : (t : ℕ) (c : list-lts.After-run-of2 (list-claims t) (list-at t) list.Post list-Inv-loop list-μ-loop) → c .run-of2 .result .0 ≤ length (c .before .before .before .before .before .before .before .before .before .before .before .before .before .before .before .before .before .before .before .args .text .now)
-list-stop t c = rw (c .run-of2 .ensures) (end-within blank (c .before .before .before .before .before .before .before .before .before .before .before .before .before .before .before .before .before .before .before .args .text .now) (c .before .before .before .before .step .given .0 .0 .end .0) (list-child t (c .before .before .before .before) .sized .within))
+list-stop : (t : ℕ) (c : list-lts.After-run-of2 (list-claims t) (list-at t) list.Post list-Inv-loop list-μ-loop)
+    → c .run-of2 .result .0 ≤ length
+    (c .before .before .before .before .before .before .before .before .before .before .before .before .before .before .before .before .before .before .before .args .text .now)
+list-stop t c =
+    let x = c .before .before .before .before .before .before .before .before .before .before .before .before .before .before .before .before .before .before .before .args .text .now in
+    let s = c .before .before .before .before in
+    rw (c .run-of2 .ensures) (end-within blank x (s .step .given .0 .0 .end .0) (list-child t s .sized .within))
 
 -- the list after its comma: the invariant again
 list-comma : (t : ℕ) (c : list-lts.Else3 (list-claims t) (list-at t) list.Post list-Inv-loop list-μ-loop)
-    → Due-child (c .before .before .before .before .before .before .before .before .before .before .before .before .before .before .before .before .before .before .before .before .before .before .args .text .now) (c .before .before .before .before .before .before .before .before .before .before .before .before .before .before .before .before .before .before .before .before .before .before .args .table .now) (c .before .before .before .before .before .before .before .before .before .before .before .key-value .last .1 .0) (c .before .before .before .before .before .before .before .before .before .before .before .before .before .before .before .before .before .before .run-of .result .0) (c .before .before .before .before .before .before .before .before .before .before .before .before .before .before .before .before .before .before .before .before .before .before .args .node .0) (kindOf (c .before .before .before .before .before .before .before .before .before .before .before .before .before .before .before .before .before .before .before .before .before .before .args .kind)) (c .before .before .before .before .before .before .before .before .before .before .before .before .before .before .before .before .before .before .before .before .before .before .args .left)
-    (c .before .before .before .run-of2 .result .0 + 1) (c .before .before .before .before .before .before .before .step .given .0 .0 .next .0) (c .before .before .before .before .before .before .before .before .before .before .before .before .before .loop .count + 1) (c .before .before .before .before .deeper .result)
-list-comma t c = comma-read (list-read t (c .before .before .before .before)) (c .before .before .before .run-of2 .result .0) (c .before .before .before .run-of2 .ensures) (sym (c .before .before .peek2 .ensures) ∙ c .if3 .left)
+    → let a = c .before .before .before .before .before .before .before .before .before .before .before .before .before .before .before .before .before .before .before .before .before .before .args in
+    let w = c .before .before .before .before .before .before .before .before .before .before .before .key-value .last .1 .0 in
+    let p = c .before .before .before .before .before .before .before .before .before .before .before .before .before .before .before .before .before .before .run-of .result .0 in
+    let n = c .before .before .before .before .before .before .before .step .given .0 .0 .next .0 in
+    let i = c .before .before .before .before .before .before .before .before .before .before .before .before .before .loop .count in
+    Due-child (a .text .now) (a .table .now) w p (a .node .0) (kindOf (a .kind)) (a .left) (c .before .before .before .run-of2 .result .0 + 1) n (i + 1)
+    (c .before .before .before .before .deeper .result)
+list-comma t c =
+    let s = c .before .before .before .before in
+    comma-read (list-read t s) (c .before .before .before .run-of2 .result .0) (c .before .before .before .run-of2 .ensures) (sym (c .before .before .peek2 .ensures) ∙ c .if3 .left)
 
 cel-value-opening-requires : (t : ℕ) → cel-value-lts.Need-opening-requires (cel-value-claims t) (cel-value-at t) cel-value.Post
 cel-value-opening-requires t c κs = c .before .before .pre .1 .0 .inside
@@ -165,8 +218,9 @@ cel-value-returns-2 : (t : ℕ) → cel-value-lts.Need-returns-2 (cel-value-clai
 cel-value-returns-2 t c =
     let a = c .before .before .before .before .before .before .before .before .before .before .before .before .args in
     let s = c .before .before .string in
-    string-up (c .before .before .before .before .before .before .before .before .before .opening .ensures) (a .node .0) (a .left) (cel-value-entered t (c .before .before .before .before .before .before)) (a .keyfrom .0) (a .keyto .0) (a .parent .0) (a .table .now) (s .last .1 .0)
-    (c .before .before .before .before .if1 .taken) (s .result) (s .ensures)
+    let h = c .before .before .before .before .before .before .before .before .before .opening in
+    string-up (h .ensures) (a .node .0) (a .left) (cel-value-entered t (c .before .before .before .before .before .before))
+    (a .keyfrom .0) (a .keyto .0) (a .parent .0) (a .table .now) (s .last .1 .0) (c .before .before .before .before .if1 .taken) (s .result) (s .ensures)
 
 cel-value-open-row-requires : (t : ℕ) → cel-value-lts.Need-open-row-requires (cel-value-claims t) (cel-value-at t) cel-value.Post
 cel-value-open-row-requires t c κs =
@@ -204,7 +258,8 @@ cel-value-returns-3 t c =
     let h : a .left ≡ suc (a .left - 1) = omega (arith, e .deeper (c .before .before .before .before .before .before .before .before .if1 .left)) in
     let l = c .before .before .list in
     let o = c .before .before .before .before .before .before .open-row in
-    list-up (c .before .before .before .before .before .before .before .before .before .before .before .before .before .opening .ensures) (a .node .0) (a .left) e (a .keyfrom .0) (a .keyto .0) (a .parent .0) (a .table .now) (o .last .0) (l .last .1 .0) (a .left - 1)
+    let i = c .before .before .before .before .before .before .before .before .before .before .before .before .before .opening in
+    list-up (i .ensures) (a .node .0) (a .left) e (a .keyfrom .0) (a .keyto .0) (a .parent .0) (a .table .now) (o .last .0) (l .last .1 .0) (a .left - 1)
     (c .before .before .before .before .before .before .before .before .if1 .left) h (o .ensures) (l .result) (l .ensures)
 
 key-value-label-requires : (t : ℕ) → key-value-lts.Need-label-requires (key-value-claims t) (key-value-at t) key-value.Post
@@ -254,16 +309,21 @@ list-close-row-requires : (t : ℕ) → list-lts.Need-close-row-requires (list-c
 list-close-row-requires t c κs = omega (arith, c .before .before .before .before .before .before .before .before .pre .1)
 
 list-add-t24 : (t : ℕ) → list-lts.Need-add-t24 (list-claims t) (list-at t) list.Post list-Inv-loop list-μ-loop
-list-add-t24 t c = omega (arith, list-first t (c .before .before .before .before .before .before .before .before), c .before .before .before .before .before .before .before .before .before .before .before .before .pre .1)
+list-add-t24 t c =
+    let s = c .before .before .before .before .before .before .before .before in
+    omega (arith, list-first t s, s .before .before .before .before .pre .1)
 
 list-same-length : (t : ℕ) → list-lts.Need-same-length (list-claims t) (list-at t) list.Post list-Inv-loop list-μ-loop
 list-same-length t c = c .before .before .before .close-row .kept .0
 
 list-returns : (t : ℕ) → list-lts.Need-returns (list-claims t) (list-at t) list.Post list-Inv-loop list-μ-loop
 list-returns t c =
-    let r = c .before .before .before .before .before .before .before .before .run-of in
-    empty-list (r .ensures) (c .before .before .before .before .before .before .before .before .before .before .before .before .pre .1 .inside) (c .before .before .before .before .before .before .before .before .before .before .before .before .pre .1 .few) _ (add-one (r .result .0)) (add-one (c .before .before .before .before .before .before .before .before .before .before .before .before .args .node .0)) refl
-    (sym (c .before .before .before .before .before .before .peek .ensures) ∙ c .before .before .before .before .before .if1 .taken ∙ c .before .before .before .before .before .before .before .before .before .closer-byte .ensures) (c .before .before .before .close-row .ensures)
+    let s = c .before .before .before .before .before in
+    let r = s .before .before .before .run-of in
+    let y = s .before .before .before .before .before .before .before .pre .1 in
+    let k = s .before .before .before .before .closer-byte .ensures in
+    empty-list (r .ensures) (y .inside) (y .few) _ (add-one (r .result .0)) (add-one (s .before .before .before .before .before .before .before .args .node .0)) refl
+    (sym (s .before .peek .ensures) ∙ s .if1 .taken ∙ k) (c .before .before .before .close-row .ensures)
 
 list-under-requires : (t : ℕ) → list-lts.Need-under-requires (list-claims t) (list-at t) list.Post list-Inv-loop list-μ-loop
 list-under-requires t c κs = omega (arith, c .before .before .before .before .before .before .before .pre .1)
@@ -272,7 +332,8 @@ list-loop-holds : (t : ℕ) → list-lts.Need-loop-holds (list-claims t) (list-a
 list-loop-holds t c =
     let a = c .before .before .before .before .before .before .before .before .args in
     let r = c .before .before .before .before .run-of in
-    first-child (end-again (a .text .now) (a .at .0) (r .result .0) (r .ensures)) (list-first t (c .before .before .before .before)) (c .before .before .before .before .before .before .before .before .pre .1 .few)
+    let y = c .before .before .before .before .before .before .before .before .pre .1 in
+    first-child (end-again (a .text .now) (a .at .0) (r .result .0) (r .ensures)) (list-first t (c .before .before .before .before)) (y .few)
     (λ e. c .before .if1 .left (c .before .before .peek .ensures ∙ e ∙ sym (c .before .before .before .before .before .closer-byte .ensures)))
 
 list-key-value-requires : (t : ℕ) → list-lts.Need-key-value-requires (list-claims t) (list-at t) list.Post list-Inv-loop list-μ-loop
@@ -292,8 +353,12 @@ list-same-length-2 t c = c .before .before .before .before .key-value .kept .1 .
 
 list-returns-2 : (t : ℕ) → list-lts.Need-returns-2 (list-claims t) (list-at t) list.Post list-Inv-loop list-μ-loop
 list-returns-2 t c =
-    let v = c .before .before .before .before .key-value in
-    list-whole t (c .before .before .before .before .before .before .before .before .before .before .before) (v .last .1 .0) (v .result) (child-up (c .before .before .before .before .before .before .before .before .before .before .before .before .before .before .before .args .kind) (c .before .before .before .before .before .before .loop .inv) (v .last .1 .0) (c .before .before .before .before .before .before .before .under .result .0) (v .last .1 .0) (c .enum-told .given .1) (v .ensures))
+    let s = c .before .before .before .before in
+    let v = s .key-value in
+    let k = s .before .before .before .before .before .before .before .before .before .before .before .args .kind in
+    let u = s .before .before .before .under .result .0 in
+    list-whole t (s .before .before .before .before .before .before .before) (v .last .1 .0) (v .result)
+    (child-up k (s .before .before .loop .inv) (v .last .1 .0) u (v .last .1 .0) (c .enum-told .given .1) (v .ensures))
 
 list-add-count : (t : ℕ) → list-lts.Need-add-count (list-claims t) (list-at t) list.Post list-Inv-loop list-μ-loop
 list-add-count t c = omega (arith, c .before .before .before .before .before .before .before .loop .inv .fewer, c .before .before .before .before .before .before .before .loop .inv .room)
@@ -309,47 +374,70 @@ list-peek-requires-2 t c κs = search needs
 
 list-close-row-requires-2 : (t : ℕ) → list-lts.Need-close-row-requires-2 (list-claims t) (list-at t) list.Post list-Inv-loop list-μ-loop
 list-close-row-requires-2 t c κs =
-    let r = list-read t (c .before .before .before .before) in
-    let k = c .before .before .before .before .before .before .before .before .before .before .before .key-value .kept .1 .0 ∙ sofar-length (c .before .before .before .before .before .before .before .before .before .before .before .before .before .loop .inv) ∙ c .before .before .before .before .before .before .before .before .before .before .before .before .before .before .before .before .before .before .before .before .before .before .pre .1 .counted in
-    omega (arith, c .before .before .before .before .before .before .before .before .before .before .before .before .before .before .before .before .before .before .before .before .before .before .pre .1 .few, k, r .room, r .fewer)
+    let s = c .before .before .before .before in
+    let r = list-read t s in
+    let y = s .before .before .before .before .before .before .before .before .before .before .before .before .before .before .before .before .before .before .pre .1 in
+    let k = s .before .before .before .before .before .before .before .key-value .kept .1 .0 ∙ sofar-length (s .before .before .before .before .before .before .before .before .before .loop .inv)
+    ∙ y .counted in
+    omega (arith, y .few, k, r .room, r .fewer)
 
 list-add-t34 : (t : ℕ) → list-lts.Need-add-t34 (list-claims t) (list-at t) list.Post list-Inv-loop list-μ-loop
-list-add-t34 t c = omega (arith, list-stop t (c .before .before .before .before .before .before .before), c .before .before .before .before .before .before .before .before .before .before .before .before .before .before .before .before .before .before .before .before .before .before .before .before .before .before .pre .1 .short)
+list-add-t34 t c =
+    let s = c .before .before .before .before .before .before .before in
+    let y = s .before .before .before .before .before .before .before .before .before .before .before .before .before .before .before .before .before .before .before .pre .1 in
+    omega (arith, list-stop t s, y .short)
 
 list-add-t36 : (t : ℕ) → list-lts.Need-add-t36 (list-claims t) (list-at t) list.Post list-Inv-loop list-μ-loop
 list-add-t36 t c =
-    let r = list-read t (c .before .before .before .before .before .before .before .before) in
-    omega (arith, r .shallow, c .before .before .before .before .before .before .before .before .before .before .before .before .before .before .before .before .before .before .before .before .before .before .before .before .before .before .pre .1 .fewLeft)
+    let s = c .before .before .before .before .before .before .before .before in
+    let r = list-read t s in
+    let y = s .before .before .before .before .before .before .before .before .before .before .before .before .before .before .before .before .before .before .pre .1 in
+    omega (arith, r .shallow, y .fewLeft)
 
 list-same-length-3 : (t : ℕ) → list-lts.Need-same-length-3 (list-claims t) (list-at t) list.Post list-Inv-loop list-μ-loop
-list-same-length-3 t c = c .before .before .before .close-row2 .kept .0 ∙ c .before .before .before .before .before .before .before .before .before .before .before .before .before .before .before .key-value .kept .1 .0 ∙ sofar-length (c .before .before .before .before .before .before .before .before .before .before .before .before .before .before .before .before .before .loop .inv)
+list-same-length-3 t c =
+    let s = c .before .before .before .before .before .before .before .before .before .before .before .before .before .before .before in
+    let l = s .before .before .loop in
+    c .before .before .before .close-row2 .kept .0 ∙ s .key-value .kept .1 .0 ∙ sofar-length (l .inv)
 
 list-returns-3 : (t : ℕ) → list-lts.Need-returns-3 (list-claims t) (list-at t) list.Post list-Inv-loop list-μ-loop
 list-returns-3 t c =
-    let r = c .before .before .before .before .before .before .before .run-of2 in
-    list-whole t (c .before .before .before .before .before .before .before .before .before .before .before .before .before .before .before .before .before .before .before .before .before .before) (c .before .before .before .close-row2 .last .0) (Next _)
-    (list-closed (list-read t (c .before .before .before .before .before .before .before .before)) (r .result .0) (r .ensures) _ (add-one (r .result .0)) refl refl
-    (sym (c .before .before .before .before .before .before .peek2 .ensures) ∙ c .before .before .before .before .before .if2 .taken ∙ c .before .before .before .before .before .before .before .before .before .before .before .before .before .before .before .before .before .before .before .before .before .before .before .closer-byte .ensures) (c .before .before .before .close-row2 .ensures))
+    let s = c .before .before .before .before .before in
+    let r = s .before .before .run-of2 in
+    let o = s .before .before .before .before .before .before .before .before .before .before .before .before .before .before .before .before .before in
+    let k = s .before .before .before .before .before .before .before .before .before .before .before .before .before .before .before .before .before .before .closer-byte .ensures in
+    list-whole t o (c .before .before .before .close-row2 .last .0) (Next _)
+    (list-closed (list-read t (s .before .before .before)) (r .result .0) (r .ensures) _ (add-one (r .result .0)) refl refl
+    (sym (s .before .peek2 .ensures) ∙ s .if2 .taken ∙ k) (c .before .before .before .close-row2 .ensures))
 
 list-same-length-4 : (t : ℕ) → list-lts.Need-same-length-4 (list-claims t) (list-at t) list.Post list-Inv-loop list-μ-loop
-list-same-length-4 t c = c .before .before .before .before .before .before .before .before .before .before .before .key-value .kept .1 .0 ∙ sofar-length (c .before .before .before .before .before .before .before .before .before .before .before .before .before .loop .inv)
+list-same-length-4 t c =
+    let l = c .before .before .before .before .before .before .before .before .before .before .before .before .before .loop in
+    c .before .before .before .before .before .before .before .before .before .before .before .key-value .kept .1 .0 ∙ sofar-length (l .inv)
 
 list-returns-4 : (t : ℕ) → list-lts.Need-returns-4 (list-claims t) (list-at t) list.Post list-Inv-loop list-μ-loop
 list-returns-4 t c =
     let r = c .before .before .before .run-of2 in
     let b = c .before .before .peek2 .ensures in
-    list-whole t (c .before .before .before .before .before .before .before .before .before .before .before .before .before .before .before .before .before .before) (c .before .before .before .before .before .before .before .before .before .before .before .key-value .last .1 .0) (Refused 4 _)
-    (neither-refused (list-read t (c .before .before .before .before)) (r .result .0) (r .ensures) (λ e. c .before .if2 .left (b ∙ e ∙ sym (c .before .before .before .before .before .before .before .before .before .before .before .before .before .before .before .before .before .before .before .closer-byte .ensures))) (λ e. c .if3 .taken (b ∙ e)))
+    let o = c .before .before .before .before .before .before .before .before .before .before .before .before .before .before .before .before .before .before in
+    let k = c .before .before .before .before .before .before .before .before .before .before .before .before .before .before .before .before .before .before .before .closer-byte .ensures in
+    list-whole t o (c .before .before .before .before .before .before .before .before .before .before .before .key-value .last .1 .0) (Refused 4 _)
+    (neither-refused (list-read t (c .before .before .before .before)) (r .result .0) (r .ensures) (λ e. c .before .if2 .left (b ∙ e ∙ sym k)) (λ e. c .if3 .taken (b ∙ e)))
 
 list-add-t38 : (t : ℕ) → list-lts.Need-add-t38 (list-claims t) (list-at t) list.Post list-Inv-loop list-μ-loop
-list-add-t38 t c = omega (arith, list-stop t (c .before .before .before .before), c .before .before .before .before .before .before .before .before .before .before .before .before .before .before .before .before .before .before .before .before .before .before .before .pre .1 .short)
+list-add-t38 t c =
+    let s = c .before .before .before .before in
+    let y = s .before .before .before .before .before .before .before .before .before .before .before .before .before .before .before .before .before .before .before .pre .1 in
+    omega (arith, list-stop t s, y .short)
 
 list-loop-less : (t : ℕ) → list-lts.Need-loop-less (list-claims t) (list-at t) list.Post list-Inv-loop list-μ-loop
 list-loop-less t c =
+    let b = c .before .before .before .before in
     let s = list-comma t (c .before) in
-    let v = list-child t (c .before .before .before .before .before .before .before .before) in
-    let h = end-later blank (c .before .before .before .before .before .before .before .before .before .before .before .before .before .before .before .before .before .before .before .before .before .before .before .args .text .now) (c .before .before .before .before .before .before .before .before .step .given .0 .0 .end .0) in
-    omega (arith, s .within, v .sized .later, h, c .before .before .before .before .run-of2 .ensures)
+    let v = list-child t (b .before .before .before .before) in
+    let x = b .before .before .before .before .before .before .before .before .before .before .before .before .before .before .before .before .before .before .before .args .text .now in
+    let h = end-later blank x (b .before .before .before .before .step .given .0 .0 .end .0) in
+    omega (arith, s .within, v .sized .later, h, b .run-of2 .ensures)
 
 list-loop-again : (t : ℕ) → list-lts.Need-loop-again (list-claims t) (list-at t) list.Post list-Inv-loop list-μ-loop
 list-loop-again t c = list-comma t (c .before)

@@ -18,15 +18,20 @@ peek-requires : tie.Need-peek-requires
 peek-requires c κs = search needs
 
 returns-2 : tie.Need-returns-2
-returns-2 c = λ n left. rw (c .before .before .before .before .before .before .if1 .left) (no-colon (c .before .before .before .before .before .trimmed-ident .ensures) (c .before .before .before .before .before .before .before .before .pre) n left (λ e. c .if2 .taken (c .before .peek .ensures ∙ e)))
+returns-2 c =
+    let s = c .before .before .before .before .before in
+    λ n left. rw (s .before .if1 .left) (no-colon (s .trimmed-ident .ensures) (s .before .before .before .pre) n left (λ e. c .if2 .taken (c .before .peek .ensures ∙ e)))
 
 add-t13 : tie.Need-add-t13
-add-t13 c = omega (arith, name-bounds (c .before .before .before .before .before .before .before .before .before .args .text .now) (c .before .before .before .before .before .before .trimmed-ident .ensures) (c .before .before .before .before .before .before .before .before .before .pre) .within)
+add-t13 c =
+    let s = c .before .before .before .before .before .before in
+    omega (arith, name-bounds (s .before .before .before .args .text .now) (s .trimmed-ident .ensures) (s .before .before .before .pre) .within)
 
 returns-3 : tie.Need-returns-3
 returns-3 c =
-    let n = c .before .before .before .before .before .before .trimmed-ident in
-    rw (c .before .before .before .before .before .before .before .if1 .left) (key-colon (n .ensures) (c .before .before .before .before .before .before .before .before .before .pre) _ refl refl (add-one (n .result .end .0)) (sym (c .before .before .peek .ensures) ∙ c .before .if2 .left))
+    let s = c .before .before .before .before .before .before in
+    let n = s .trimmed-ident in
+    rw (s .before .if1 .left) (key-colon (n .ensures) (s .before .before .before .pre) _ refl refl (add-one (n .result .end .0)) (sym (c .before .before .peek .ensures) ∙ c .before .if2 .left))
 
 pub label-spec : {M : Type 1} → statement M
 label-spec =
