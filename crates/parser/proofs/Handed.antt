@@ -2,23 +2,23 @@
 use mathlib.Core.Path.{_≡_, sym, subst, _∙_}
 use Prim.Native.Nat.{ℕ, suc, _*_, _≤_}
 use mathlib.Core.List.{[], _∷_}
-use lib.ListN.{length, getD}
 use lib.Seq.{sets}
-use Rattle.cel_text.specs.Byte.{Text, blank, colon}
-use Rattle.cel_text.specs.Tree.{object}
+use Rattle.cel_text.specs.Byte.{Text, blank}
+use Rattle.cel_text.specs.Tree.{Kind}
 use Rattle.cel_text.specs.Reading.{begun, fresh}
 use Rattle.cel_text.specs.Table.{Words, rowWords}
 use Rattle.parser.specs.declared.Read.{Read}
 use Rattle.parser.specs.declared.Step.{Step}
 use Rattle.parser.specs.declared.Step.the-variants.{Next, Refused}
 use Rattle.parser.specs.declared.Place.{Place}
-use Rattle.parser.specs.Run.{endOf, NamedAt}
+use Rattle.parser.specs.declared.value.Key.{Key as Found}
+use Rattle.parser.specs.Run.{endOf}
 use Rattle.parser.specs.Kinds.{kindOf}
-use Rattle.parser.specs.Steps.{RefusedBy, Headed, Entered, Valued, Quoted, WholeChild, ChildRead, Listed}
+use Rattle.parser.specs.Steps.{RefusedBy, Headed, Entered, Valued, Quoted, Keyed, WholeChild, ChildRead, Listed}
 use Rattle.parser.proofs.Runs.{end-stop}
 use Rattle.parser.proofs.Machine.{over-begun, not-blank}
 use Rattle.parser.proofs.Values.{sized-from, whole-from, refused-from, at-string, at-container, value-later, value-list}
-use Rattle.parser.proofs.Lists.{entry-whole, entry-refused, value-whole, value-refused, Due-child, child-refused}
+use Rattle.parser.proofs.Lists.{whole-child, refused-child, Due-child, child-refused}
 
 module _ {x : Text} {at kind from to o : ℕ} (h : Headed x at kind from to o) (n left : ℕ) where
   module _ {q : ℕ} (e : Entered kind o n left q) (kf kt u : ℕ) where
@@ -48,16 +48,11 @@ list-from x w w′ at p n kind left e h (Refused r q) v = λ o from to. refused-
 pub end-again : (x : Text) (at p : ℕ) → p ≡ endOf blank x at → p ≡ endOf blank x p
 end-again x at p e = sym (end-stop blank x p (not-blank x at p e))
 
--- a value in an entry, and one that is none
-module _ (x : Text) (w w′ : Words) (n left u : ℕ) where
-  pub entry-up : {p kf kt e : ℕ} → NamedAt x p kf kt e → p ≤ length x → {q : ℕ} → getD x e 0 ≡ colon → q ≡ suc e
-      → (s : Step) → Valued x w w′ q n left kf kt u s → ChildRead object x w w′ p n left u s
-  entry-up named hp h hq (Next r) v = entry-whole named hp n left h hq v
-  entry-up named hp h hq (Refused r p) v = entry-refused named hp n left h hq v
-
-  pub value-up : (p kind : ℕ) → (kind ≡ 3 → ⊥) → (s : Step) → Valued x w w′ p n left 0 0 u s → ChildRead (kindOf kind) x w w′ p n left u s
-  value-up p kind k (Next r) v = value-whole x p kind n left k v
-  value-up p kind k (Refused r q) v = value-refused x p kind n left k v
+-- a value, with the key before it
+pub child-by : {x : Text} {c : Kind} {p : ℕ} {k : Found} → Keyed x c p k → (w w′ : Words) (n left u : ℕ) (s : Step)
+    → Valued x w w′ (k .due .0) n left (k .from .0) (k .to .0) u s → ChildRead c x w w′ p n left u s
+child-by l w w′ n left u (Next r) v = whole-child l n left v
+child-by l w w′ n left u (Refused r q) v = refused-child l n left v
 
 module _ {x : Text} {w w′ : Words} {p₀ n : ℕ} (kind : ℕ) {left p m i d : ℕ} (s : Due-child x w w′ p₀ n (kindOf kind) left p m i d) (w₁ : Words) (u : ℕ) where
   pub child-up : (w₂ : Words) {r : ℕ} {q : Place} {a : Step} → a ≡ Refused r q → ChildRead (kindOf kind) x w′ w₁ p m left u a → Listed x w w₂ p₀ n kind left a

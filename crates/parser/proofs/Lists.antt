@@ -15,13 +15,14 @@ use Rattle.cel_text.specs.Table.{Words, rowsAll, rowWords}
 use Rattle.cel_text.specs.Laws.Run.{whole-resumes}
 use Rattle.parser.specs.Set.{stringSet}
 use Rattle.parser.specs.declared.Read.{Read}
+use Rattle.parser.specs.declared.value.Key.{Key as Found}
 use Rattle.parser.specs.Run.{endOf, NamedAt}
 use Rattle.parser.specs.Kinds.{kindOf}
-use Rattle.parser.specs.Steps.{reads, goesOn, Around, RefusedBy, Sized, Whole, framed, WholeChild, ChildRefused, WholeList}
+use Rattle.parser.specs.Steps.{reads, goesOn, Around, RefusedBy, Sized, Whole, framed, Keyed, WholeChild, ChildRefused, WholeList}
 use Rattle.parser.proofs.Runs.{decide, end-within, byte-within}
 use Rattle.parser.proofs.Machine.{over-key, begun-closes, begun-child, after-closes, after-comma, after-other}
 use Rattle.parser.proofs.Rows.{rows-child}
-use Rattle.parser.proofs.Values.{name-bounds, sized-from}
+use Rattle.parser.proofs.Values.{Bounds, name-bounds, sized-from}
 
 entry-goes : (K : Stack) (f : Frame) (from to p b : ℕ) → b ≡ colon → past stringSet limits (entry K f) from to p b ≡ go (before (value (inside K (withKey f (key from to)))))
 unfolding past
@@ -31,76 +32,77 @@ entry-stops : (K : Stack) (f : Frame) (from to p b : ℕ) → (b ≡ colon → �
 unfolding past
 entry-stops K f from to p b h = rw (ne-eqb b colon h)
 
+-- ---- a child's key, and the child
+
+-- an entry: its key, and the colon after it
+module _ {x : Text} {p kf kt e : ℕ} (named : NamedAt x p kf kt e) (hp : p ≤ length x) where
+  pub key-colon : (k : Found) → k .from .0 ≡ kf → k .to .0 ≡ kt → k .due .0 ≡ suc e → getD x e 0 ≡ colon → Keyed x object p k
+  key-colon k hf ht hd h =
+      let b : Bounds x p kf kt e = name-bounds x named hp in
+      let inside-text : e < length x = byte-within x e (λ z. omega (arith, h)) in
+      record {
+        label = key kf kt;
+        keyfrom = sym hf;
+        keyto = sym ht;
+        due = λ K o from to ts. rw hd (over-key x named K (framed object o from to ts unkeyed)
+            ∙ ap (λ (s : Step). goesOn s x e) (entry-goes K (framed object o from to ts unkeyed) kf kt e (getD x e 0) h));
+        later = omega (arith, hd, b .later);
+        within = omega (arith, hd);
+        fromIn = omega (arith, hf, b .fromIn);
+        toIn = omega (arith, ht, b .toIn);
+      }
+
+  pub no-colon : (n left : ℕ) → (getD x e 0 ≡ colon → ⊥) → ChildRefused object x p n left 4 e
+  no-colon n left h =
+      record {
+        fault = syntax;
+        number = refl;
+        refuses = λ K o from to ts a. over-key x named K (framed object o from to ts unkeyed)
+            ∙ ap (λ (s : Step). goesOn s x e) (entry-stops K (framed object o from to ts unkeyed) kf kt e (getD x e 0) h);
+        within = name-bounds x named hp .within;
+      }
+
+-- a child that is no entry has none
+pub key-none : (x : Text) (p kind : ℕ) (k : Found) → p ≤ length x → (kind ≡ 3 → ⊥) → k .from .0 ≡ 0 → k .to .0 ≡ 0 → k .due .0 ≡ p → Keyed x (kindOf kind) p k
+key-none x p kind k hp h hf ht hd =
+    record {
+      label = unkeyed;
+      keyfrom = sym hf;
+      keyto = sym ht;
+      due = λ K o from to ts. rw hd (decide (eqb kind 2) (λ t. rw t) (λ t. rw (t, ne-eqb kind 3 h)));
+      later = omega (arith, hd);
+      within = omega (arith, hd);
+      fromIn = omega (arith, hf);
+      toIn = omega (arith, ht);
+    }
+
 -- the stack around a child, whatever the child's key
 around-key : {K : Stack} {c : Kind} {o from to n left : ℕ} {ts : Trees} {k : Key} (k′ : Key)
     → Around (inside K (framed c o from to ts k)) n left → Around (inside K (framed c o from to ts k′)) n left
 around-key k′ a = record { below = a .below; sofar = a .sofar }
 
--- an entry: its key, and what stands after it
-module _ {x : Text} {p kf kt e : ℕ} (named : NamedAt x p kf kt e) (hp : p ≤ length x) (n left : ℕ) where
-  pub no-colon : {r q : ℕ} → (getD x e 0 ≡ colon → ⊥) → r ≡ 4 → q ≡ e → ChildRefused object x p n left r q
-  no-colon h hr hq =
+module _ {x : Text} {c : Kind} {p : ℕ} {k : Found} (l : Keyed x c p k) (n left : ℕ) where
+  pub whole-child : {w w′ : Words} {u : ℕ} {r : Read} → Whole (λ K. before (value K)) x w w′ (k .due .0) n left (k .from .0) (k .to .0) u r
+      → WholeChild c x w w′ p n left u r
+  whole-child v =
       record {
-        fault = syntax;
-        number = sym hr;
-        refuses = λ K o from to ts a. rw hq (over-key x named K (framed object o from to ts unkeyed)
-            ∙ ap (λ (s : Step). goesOn s x e) (entry-stops K (framed object o from to ts unkeyed) kf kt e (getD x e 0) h));
-        within = omega (arith, hq, name-bounds x named hp .within);
-      }
-
-  module _ {q : ℕ} (h : getD x e 0 ≡ colon) (hq : q ≡ suc e) where
-    entry-due : (K : Stack) (o from to : ℕ) (ts : Trees)
-        → reads (before (child object K (framed object o from to ts unkeyed))) x p ≡ reads (before (value (inside K (framed object o from to ts (key kf kt))))) x q
-    entry-due K o from to ts =
-        rw hq (over-key x named K (framed object o from to ts unkeyed)
-        ∙ ap (λ (s : Step). goesOn s x e) (entry-goes K (framed object o from to ts unkeyed) kf kt e (getD x e 0) h))
-
-    pub entry-within : q ≤ length x
-    entry-within = let inside-text : e < length x = byte-within x e (λ z. omega (arith, h)) in omega arith
-
-    pub entry-whole : {w w′ : Words} {u : ℕ} {r : Read} → Whole (λ K. before (value K)) x w w′ q n left kf kt u r → WholeChild object x w w′ p n left u r
-    entry-whole v =
-        record {
-          label = key kf kt;
-          tree = v .tree;
-          reading = λ K o from to ts a. entry-due K o from to ts ∙ v .reading (inside K (framed object o from to ts (key kf kt))) a;
-          rows = v .rows (key kf kt) refl refl;
-          sized = sized-from (omega (arith, hq, name-bounds x named hp .later)) (v .sized);
-        }
-
-    pub entry-refused : {r q′ : ℕ} → RefusedBy (λ K. before (value K)) x q n left r q′ → ChildRefused object x p n left r q′
-    entry-refused v =
-        record {
-          fault = v .fault;
-          number = v .number;
-          refuses = λ K o from to ts a. entry-due K o from to ts ∙ v .refuses (inside K (framed object o from to ts (key kf kt))) (around-key (key kf kt) a);
-          within = v .within;
-        }
-
--- a child that is no entry
-module _ (x : Text) (p kind n left : ℕ) (k : kind ≡ 3 → ⊥) where
-  value-due : (K : Stack) (o from to : ℕ) (ts : Trees)
-      → reads (before (child (kindOf kind) K (framed (kindOf kind) o from to ts unkeyed))) x p ≡ reads (before (value (inside K (framed (kindOf kind) o from to ts unkeyed)))) x p
-  value-due K o from to ts = decide (eqb kind 2) (λ t. rw t) (λ t. rw (t, ne-eqb kind 3 k))
-
-  pub value-whole : {w w′ : Words} {u : ℕ} {r : Read} → Whole (λ K. before (value K)) x w w′ p n left 0 0 u r → WholeChild (kindOf kind) x w w′ p n left u r
-  value-whole v =
-      record {
-        label = unkeyed;
+        label = l .label;
         tree = v .tree;
-        reading = λ K o from to ts a. value-due K o from to ts ∙ v .reading (inside K (framed (kindOf kind) o from to ts unkeyed)) a;
-        rows = v .rows unkeyed refl refl;
-        sized = v .sized;
+        reading = λ K o from to ts a. l .due K o from to ts ∙ v .reading (inside K (framed c o from to ts (l .label))) a;
+        rows = v .rows (l .label) (l .keyfrom) (l .keyto);
+        sized = sized-from (l .later) (v .sized);
       }
 
-  pub value-refused : {r q : ℕ} → RefusedBy (λ K. before (value K)) x p n left r q → ChildRefused (kindOf kind) x p n left r q
-  value-refused v =
+  pub refused-child : {r q : ℕ} → RefusedBy (λ K. before (value K)) x (k .due .0) n left r q → ChildRefused c x p n left r q
+  refused-child v =
       record {
         fault = v .fault;
         number = v .number;
-        refuses = λ K o from to ts a. value-due K o from to ts ∙ v .refuses (inside K (framed (kindOf kind) o from to ts unkeyed)) a;
+        refuses = λ K o from to ts a. l .due K o from to ts ∙ v .refuses (inside K (framed c o from to ts (l .label))) (around-key (l .label) a);
         within = v .within;
       }
+
+-- ---- the list
 
 -- no closer is 0
 closer-some : (c : Kind) → closer c ≡ 0 → ⊥

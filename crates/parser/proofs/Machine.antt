@@ -11,7 +11,8 @@ use lib.Dec.{eqb}
 use borrow.Author.Tests.{eq-eqb, ne-eqb, eqb-true}
 use Rattle.cel_text.specs.Byte.{Text, blank, identByte, stringByte, alphanumeric, lead, comma, quote}
 use Rattle.cel_text.specs.Tree.{Kind, array, object, function, closer, string}
-use Rattle.cel_text.specs.Reading.{Stack, Frame, Due, value, entry, State, before, naming, named, quoted, dropping, begun, after, Step, go, refuse, syntax, refused, child, whole, closed, past, bare, start, unquote, step, follow, run, limits}
+use Rattle.cel_text.specs.Reading.{Stack, Frame, Due, value, entry, State, before, naming, named, quoted, dropping, begun, after, Step, go, refuse, syntax, refused, child, whole, closed, past, bare}
+use Rattle.cel_text.specs.Reading.{start, unquote, step, follow, run, limits}
 use Rattle.cel_text.specs.Laws.Class.{closer-comma, closer-closer}
 use Rattle.parser.specs.Set.{stringSet}
 use Rattle.parser.specs.Run.{endOf, NamedAt}
@@ -68,7 +69,7 @@ pub sees : (st : State) (x : Text) (p : ℕ) {s : Step} → does st p (getD x p 
 sees st x p e = look st x p ∙ ap (λ (s : Step). goesOn s x p) e
 
 -- two states in which the byte at this place does the same
-pub same-here : (st st′ : State) (x : Text) (p : ℕ) → does st p (getD x p 0) ≡ does st′ p (getD x p 0) → reads st x p ≡ reads st′ x p
+same-here : (st st′ : State) (x : Text) (p : ℕ) → does st p (getD x p 0) ≡ does st′ p (getD x p 0) → reads st x p ≡ reads st′ x p
 same-here st st′ x p e = sees st x p e ∙ sym (look st′ x p)
 
 -- a state that a class of bytes leaves as it is reads a run of them
@@ -122,12 +123,14 @@ named-from kind p = cond (eqb kind 2) 0 p
 past-opens : (K : Stack) (from to p b : ℕ) → past stringSet limits (value K) from to p b ≡ opens (openerKind false b) K (named-from (openerKind false b) from) (named-from (openerKind false b) to) p
 unfolding past
 past-opens K from to p b =
-    decide (eqb b 123) (λ t. rw t) (λ t₁. decide (eqb b 40) (λ t. rw (t₁, t)) (λ t₂. decide (eqb b 91) (λ t. rw (t₁, t₂, t)) (λ t₃. decide (eqb b 34) (λ t. rw (t₁, t₂, t₃, t)) (λ t. rw (t₁, t₂, t₃, t)))))
+    decide (eqb b 123) (λ t. rw t) (λ t₁. decide (eqb b 40) (λ t. rw (t₁, t))
+    (λ t₂. decide (eqb b 91) (λ t. rw (t₁, t₂, t)) (λ t₃. decide (eqb b 34) (λ t. rw (t₁, t₂, t₃, t)) (λ t. rw (t₁, t₂, t₃, t)))))
 
 bare-opens : (K : Stack) (p b : ℕ) → bare stringSet limits (value K) p b ≡ opens (openerKind true b) K (named-from (openerKind true b) p) (named-from (openerKind true b) p) p
 unfolding bare past
 bare-opens K p b =
-    decide (eqb b 123) (λ t. rw (eqb-true b 123 t)) (λ t₁. decide (eqb b 40) (λ t. rw (eqb-true b 40 t)) (λ t₂. decide (eqb b 91) (λ t. rw (t₁, t₂, t)) (λ t₃. decide (eqb b 34) (λ t. rw (t₁, t₂, t₃, t)) (λ t. rw (t₁, t₂, t₃, t)))))
+    decide (eqb b 123) (λ t. rw (eqb-true b 123 t))
+    (λ t₁. decide (eqb b 40) (λ t. rw (eqb-true b 40 t)) (λ t₂. decide (eqb b 91) (λ t. rw (t₁, t₂, t)) (λ t₃. decide (eqb b 34) (λ t. rw (t₁, t₂, t₃, t)) (λ t. rw (t₁, t₂, t₃, t)))))
 
 module _ (x : Text) {p from to end : ℕ} (n : NamedAt x p from to end) where
   no-blank : blank (getD x from 0) ≡ false

@@ -2,25 +2,21 @@
 use mathlib.Core.Path.{_≡_, refl, sym, ap, _∙_}
 use Prim.Native.Nat.{ℕ, suc, _+_, _-_, _*_, _≤_, _<_}
 use native.Mathlib.Numerals.{add-one}
-use native.Mathlib.Nat.{add-zero}
 use native.Mathlib.Omega.{arith}
 use mathlib.Core.List.{[], _∷_, _++_, append-nil, append-assoc}
-use lib.ListN.{length, set, take, replicate, length-append, length-set, replicate-append-replicate}
+use lib.ListN.{length, set, take, replicate, length-set, replicate-append-replicate}
 use lib.Seq.{sets, set-comm, take-all, take-suc-set}
-use Rattle.cel_text.specs.Tree.{Kind, Key, Tree, string, container, Trees, ∅, _▸_∶_, nodes, nodesAll, count}
+use Rattle.cel_text.specs.Tree.{Kind, Key, Tree, string, container, Trees, _▸_∶_, nodesAll, count}
 use Rattle.cel_text.specs.Table.{Words, rowsOf, rowsAll, kindNumber, keyFrom, keyTo, stringKind, rowWords}
 pub use Rattle.cel_text.specs.Laws.Table.{length-rowsOf, length-rowsAll}
-
-pub sets-append : (vs ws l : Words) (i : ℕ) → sets l i (vs ++ ws) ≡ sets (sets l i vs) (i + length vs) ws
-sets-append [] ws l i = rw add-zero
-sets-append (a ∷ vs) ws l i = sets-append vs ws (set l i a) (suc i) ∙ ap (λ (j : ℕ). sets (sets (set l i a) (suc i) vs) j ws) (omega arith)
+pub use Rattle.pieces.specs.Laws.{sets-append}
 
 set-sets : (vs l : Words) (i j a : ℕ) → j < i → set (sets l i vs) j a ≡ sets (set l j a) i vs
 set-sets [] l i j a h = refl
 set-sets (b ∷ vs) l i j a h = set-sets vs (set l i b) (suc i) j a (omega arith) ∙ ap (λ (w : Words). sets w (suc i) vs) (set-comm l i j b a (λ e. omega arith))
 
 -- words before the place of others may be put first
-pub sets-before : (vs ws l : Words) (i j : ℕ) → j + length ws ≤ i → sets (sets l i vs) j ws ≡ sets (sets l j ws) i vs
+sets-before : (vs ws l : Words) (i j : ℕ) → j + length ws ≤ i → sets (sets l i vs) j ws ≡ sets (sets l j ws) i vs
 sets-before vs [] l i j h = refl
 sets-before vs (a ∷ ws) l i j h = ap (λ (w : Words). sets w (suc j) ws) (set-sets vs l i j a (omega arith)) ∙ sets-before vs ws (set l j a) i (suc j) (omega arith)
 

@@ -52,7 +52,7 @@ module _ (f : ℕ → Bool) where
     end-other z p = rw (getD-drop p x (lead f (drop p x)) 0) at (lead-other z (drop p x))
 
     -- past bytes of the class the run goes on
-    pub end-past : (n p : ℕ) → p + n ≤ length x → ((i : ℕ) → p ≤ i → i < p + n → f (getD x i 0) ≡ true) → endOf f x p ≡ endOf f x (p + n)
+    end-past : (n p : ℕ) → p + n ≤ length x → ((i : ℕ) → p ≤ i → i < p + n → f (getD x i 0) ≡ true) → endOf f x p ≡ endOf f x (p + n)
     end-past zero p h t = rw add-zero
     end-past (suc n) p h t =
         let same : suc p + n ≡ p + suc n = omega arith in

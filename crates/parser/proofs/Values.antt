@@ -101,7 +101,8 @@ opener-byte e b h z = h (rw z)
 
 opener-numbered : (e : Bool) (b : ℕ) → (openerKind e b ≡ 0 → ⊥) → (openerKind e b ≡ 1 → ⊥) → kindNumber (kindOf (openerKind e b)) ≡ openerKind e b
 opener-numbered e b h₀ h₁ =
-    decide (eqb b 123) (λ t. rw t) (λ t₁. decide (eqb b 40) (λ t. rw (t₁, t)) (λ t₂. decide (eqb b 91) (bracket t₁ t₂) (λ t₃. decide (eqb b 34) (mark t₁ t₂ t₃) (λ t. absurd (h₀ (rw (t₁, t₂, t₃, t)))))))
+    decide (eqb b 123) (λ t. rw t) (λ t₁. decide (eqb b 40) (λ t. rw (t₁, t))
+    (λ t₂. decide (eqb b 91) (bracket t₁ t₂) (λ t₃. decide (eqb b 34) (mark t₁ t₂ t₃) (λ t. absurd (h₀ (rw (t₁, t₂, t₃, t)))))))
   where
     bracket : eqb b 123 ≡ false → eqb b 40 ≡ false → eqb b 91 ≡ true → kindNumber (kindOf (openerKind e b)) ≡ openerKind e b
     bracket t₁ t₂ t = decide e (λ y. rw (t₁, t₂, t, y)) (λ y. absurd (h₀ (rw (t₁, t₂, t, y))))

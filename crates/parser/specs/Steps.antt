@@ -3,11 +3,11 @@
 use mathlib.Core.Path.{_≡_}
 use Prim.Native.Nat.{ℕ, suc, _+_, _*_, _≤_, _<_}
 use mathlib.Core.List.{[], _∷_}
-use lib.ListN.{length, drop, getD}
+use lib.ListN.{length, drop}
 use lib.Seq.{sets}
-use Rattle.cel_text.specs.Byte.{Text, colon}
+use Rattle.cel_text.specs.Byte.{Text}
 use Rattle.cel_text.specs.Tree.{Kind, Key, unkeyed, Tree, Trees, container, nodes, depth, count}
-use Rattle.cel_text.specs.Reading.{Stack, inside, Frame, level, opened, State, before, value, quoted, begun, child, fresh, Fault, syntax, Outcome, refused, follow, refuse, go, run, limits, maxDepth, maxNodes}
+use Rattle.cel_text.specs.Reading.{Stack, inside, Frame, level, opened, State, before, value, quoted, begun, child, fresh, Fault, Outcome, refused, follow, refuse, go, run, limits, maxDepth, maxNodes}
 use Rattle.cel_text.specs.Table.{Words, rowsOf, rowsAll, kindNumber, keyFrom, keyTo, rowWords, nodeWords}
 use Rattle.cel_text.specs.Answer.{faultNumber, maxText}
 use Rattle.cel_text.specs.Laws.Run.{resume}
@@ -15,6 +15,9 @@ use Rattle.parser.specs.Set.{stringSet}
 use Rattle.parser.specs.declared.Read.{Read}
 use Rattle.parser.specs.declared.Step.{Step}
 use Rattle.parser.specs.declared.Step.the-variants.{Next, Refused}
+use Rattle.parser.specs.declared.value.Key.{Key as Found}
+use Rattle.parser.specs.declared.value.Labelled.{Labelled}
+use Rattle.parser.specs.declared.value.Labelled.the-variants.{As, Unlabelled}
 use Rattle.parser.specs.declared.value.Pass.{Pass}
 use Rattle.parser.specs.declared.value.Pass.the-variants.{Past, Stopped}
 use Rattle.parser.specs.Kinds.{kindOf, opens, openState}
@@ -105,14 +108,21 @@ abbrev pub Quoted : Text → (w w′ : Words) → (at n kf kt u : ℕ) → Step 
 Quoted x w w′ at n kf kt u (Next r) = (o left : ℕ) → at ≡ suc o → Whole (λ K. quoted K o) x w w′ at n left kf kt u r
 Quoted x w w′ at n kf kt u (Refused r p) = (o left : ℕ) → RefusedBy (λ K. quoted K o) x at n left r (p .0)
 
--- the colon after a key
-abbrev pub Coloned : Text → ℕ → Pass → Type 0
-Coloned x p (Past q) = (getD x p 0 ≡ colon) × (q .0 ≡ suc p)
-Coloned x p (Stopped r q) = (getD x p 0 ≡ colon → ⊥) × (r ≡ faultNumber syntax) × (q .0 ≡ p)
-
 -- an open container with its children so far and the key of the child that comes next
 abbrev pub framed : Kind → (o from to : ℕ) → Trees → Key → Frame
 framed c o from to ts k = record { kind = c; o = o; from = from; to = to; children = ts; next = k }
+
+-- the key of the child of a container of kind c that is due at place p, and where its value is due
+pub record Keyed (x : Text) (c : Kind) (p : ℕ) (k : Found) : Type 0 where
+  pub label : Key
+  pub keyfrom : keyFrom label ≡ k .from .0
+  pub keyto : keyTo label ≡ k .to .0
+  pub due : (K : Stack) (o from to : ℕ) (ts : Trees)
+      → reads (before (child c K (framed c o from to ts unkeyed))) x p ≡ reads (before (value (inside K (framed c o from to ts label)))) x (k .due .0)
+  pub later : p ≤ k .due .0
+  pub within : k .due .0 ≤ length x
+  pub fromIn : k .from .0 ≤ length x
+  pub toIn : k .to .0 ≤ length x
 
 -- a child of a container of kind c, from where it is due: its key, its tree and its rows
 pub record WholeChild (c : Kind) (x : Text) (w w′ : Words) (at n left u : ℕ) (r : Read) : Type 0 where
@@ -129,6 +139,10 @@ pub record ChildRefused (c : Kind) (x : Text) (at n left r p : ℕ) : Type 0 whe
   pub refuses : (K : Stack) (o from to : ℕ) (ts : Trees) → Around (inside K (framed c o from to ts unkeyed)) n left
       → reads (before (child c K (framed c o from to ts unkeyed))) x at ≡ refused fault p
   pub within : p ≤ length x
+
+abbrev pub Labels : Text → ℕ → Kind → Labelled → Type 0
+Labels x p c (As k) = Keyed x c p k
+Labels x p c (Unlabelled r q) = (n left : ℕ) → ChildRefused c x p n left r (q .0)
 
 abbrev pub ChildRead : Kind → Text → (w w′ : Words) → (at n left u : ℕ) → Step → Type 0
 ChildRead c x w w′ at n left u (Next r) = WholeChild c x w w′ at n left u r

@@ -2,12 +2,12 @@
 ghost use mathlib.Core.Path.{_≡_};
 ghost use Prim.Native.Nat.{_≤_, _<_, _+_, max};
 ghost use lib.ListN.{length};
-ghost use Rattle.cel_text.specs.Tree.{object, closer};
+ghost use Rattle.cel_text.specs.Tree.{closer};
 ghost use Rattle.cel_text.specs.Reading.{maxNodes};
 ghost use Rattle.cel_text.specs.Table.{nodeWords};
 ghost use Rattle.cel_text.specs.Answer.{maxText};
 ghost use Rattle.parser.specs.Kinds.{kindOf, openerKind};
-ghost use Rattle.parser.specs.Steps.{Headed, Opens, Coloned, Ready, Valued, Quoted, ChildRead, Listed};
+ghost use Rattle.parser.specs.Steps.{Headed, Opens, Labels, Ready, Valued, Quoted, ChildRead, Listed};
 use crate::ARRAY;
 use crate::FUNCTION;
 use crate::MAX_NODES;
@@ -25,10 +25,23 @@ use crate::row::Parent;
 use crate::scan;
 use crate::scan::Class;
 
-// What a step over one byte answers: the place after it, or the refusal's number and its place.
+// What the limits answer to an opener: the place after it, or the refusal's number and its place.
 pub(crate) enum Pass {
     Past(Place),
     Stopped(u32, Place),
+}
+
+// A child's key, 0 and 0 where it has none, and the place where its value is due.
+pub(crate) struct Key {
+    pub from: Place,
+    pub to: Place,
+    pub due: Place,
+}
+
+// What reading a child's key answers: the key, or the refusal's number and its place.
+pub(crate) enum Labelled {
+    As(Key),
+    Unlabelled(u32, Place),
 }
 
 // What a value begins with: its kind, 0 where nothing opens; the ends of its name; its opener's place.
@@ -184,39 +197,34 @@ fn string(
     })
 }
 
-// The colon after an entry's key.
-fn colon(text: &[u8], at: Place) -> Pass
+// The key of the child that is due here, in an object with its colon; no other container's children have one.
+fn label(text: &[u8], at: Place, kind: u32) -> Labelled
     requires { ⌜ at .0 ≤ length (now text) ⌝ }
-    ensures { λ r. ⌜ Coloned (now (text .entry)) (at .0) r ⌝ }
+    ensures { λ r. ⌜ Labels (now (text .entry)) (at .0) (kindOf kind) r ⌝ }
 {
-    if scan::peek(text, at) != b':' {
-        return Pass::Stopped(SYNTAX, at);
+    if kind != OBJECT {
+        return Labelled::As(Key {
+            from: Place(0),
+            to: Place(0),
+            due: at,
+        });
     }
-    Pass::Past(Place(at.0 + 1))
+    let name = scan::trimmed_ident(text, at);
+    let from = name.from;
+    let to = name.to;
+    let end = name.end;
+    if scan::peek(text, end) != b':' {
+        return Labelled::Unlabelled(SYNTAX, end);
+    }
+    Labelled::As(Key {
+        from,
+        to,
+        due: Place(end.0 + 1),
+    })
 }
 
-// An entry of an object: its key, the colon and its value.
+// A child of a container of this kind: an entry, which is key, colon and value, in an object; a value elsewhere.
 fn key_value(
-    text: &[u8],
-    table: &mut [u32],
-    at: Place,
-    node: Node,
-    left: usize,
-    parent: Parent,
-) -> Step
-    requires { ⌜ Ready (now text) (now table) (at .0) (node .0) left ⌝ }
-    ensures { λ r. ⌜ ChildRead object (now (text .entry)) (now (table .entry)) (now (table .exit)) (at .0) (node .0) left (parent .0) r ⌝ }
-{
-    let key = scan::trimmed_ident(text, at);
-    let start = match colon(text, key.end) {
-        Pass::Past(start) => start,
-        Pass::Stopped(refusal, place) => return Step::Refused(refusal, place),
-    };
-    cel_value(text, table, start, node, left, key.from, key.to, parent)
-}
-
-// A child of a container of this kind: an entry in an object, a value elsewhere.
-fn child(
     text: &[u8],
     table: &mut [u32],
     at: Place,
@@ -228,10 +236,10 @@ fn child(
     requires { ⌜ Ready (now text) (now table) (at .0) (node .0) left ⌝ }
     ensures { λ r. ⌜ ChildRead (kindOf kind) (now (text .entry)) (now (table .entry)) (now (table .exit)) (at .0) (node .0) left (parent .0) r ⌝ }
 {
-    if kind == OBJECT {
-        return key_value(text, table, at, node, left, parent);
+    match label(text, at, kind) {
+        Labelled::As(key) => cel_value(text, table, key.due, node, left, key.from, key.to, parent),
+        Labelled::Unlabelled(refusal, place) => Step::Refused(refusal, place),
     }
-    cel_value(text, table, at, node, left, Place(0), Place(0), parent)
 }
 
 fn deeper(a: usize, b: usize) -> usize
@@ -261,7 +269,7 @@ fn list(text: &[u8], table: &mut [u32], at: Place, node: Node, kind: u32, left: 
     let mut count = 0;
     let mut depth = 0;
     loop {
-        let step = child(text, table, from, next, kind, left, parent);
+        let step = key_value(text, table, from, next, kind, left, parent);
         let Step::Next(read) = step else {
             return step;
         };

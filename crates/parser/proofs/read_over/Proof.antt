@@ -62,8 +62,11 @@ returns-2 c =
     let h = c .before .before .before .before .before .before .before .before .before .before .if1 .left in
     let f = c .before .before .before .before .before .before .before .before .find in
     let a = c .before .before .before .before .before .answer-of .ensures in
-    let e = c .before .before .before .stale .ensures ∙ ap (λ (r : Answer). staleFrom (nodesLeft (r .refusal))) a in
-    (a ∙ find-answer x w h (f .last .1 .0) (f .result) (f .ensures), find-over x w h (f .last .1 .0) (f .result) (f .ensures) (f .kept .1 .0) _ e (c .before .before .clear .last .0) (c .before .before .clear .ensures))
+    let e = c .before .before .before .stale .ensures ∙ ap (λ (r : Answer). staleFrom (nodesLeft (r .refusal))) a in (
+      a ∙ find-answer x w h (f .last .1 .0) (f .result) (f .ensures),
+      find-over x w h (f .last .1 .0) (f .result) (f .ensures) (f .kept .1 .0) _ e (c .before .before .clear .last .0)
+          (c .before .before .clear .ensures),
+    )
 
 pub read-over-spec : {M : Type 1} → statement M
 read-over-spec =

@@ -1,5 +1,5 @@
 -- `row::read_row` meets its contract: a whole row is there exactly where its number is below the number of whole rows. Assumes nothing.
-use mathlib.Core.Path.{sym, _∙_}
+use mathlib.Core.Path.{_∙_}
 use Prim.Native.Nat.{suc, _+_, _*_, _≤_, _<_}
 use native.Mathlib.Nat.{add-zero}
 use lib.ListN.{length}

@@ -1,6 +1,6 @@
 -- `scan::blanks` meets its contract: the run from `at` ends where the run from i does, for each place i passed. Assumes nothing.
 use mathlib.Core.Path.{_≡_, refl, sym, ap, _∙_}
-use Prim.Native.Nat.{suc, _+_, _-_}
+use Prim.Native.Nat.{_-_}
 use native.Mathlib.Numerals.{add-one}
 use borrow.Author.Tests.{not-true, not-false}
 use lib.ListN.{length}
@@ -27,7 +27,9 @@ has-requires : tie.Need-has-requires Inv-loop μ-loop
 has-requires c κs = tt
 
 returns : tie.Need-returns Inv-loop μ-loop
-returns c = sym (c .before .before .before .before .loop .inv ∙ end-stop blank (c .before .before .before .before .before .before .args .text .now) (c .before .before .before .before .loop .i) (sym (c .before .has .ensures) ∙ not-true _ (c .if1 .taken)))
+returns c =
+    sym (c .before .before .before .before .loop .inv ∙ end-stop blank (c .before .before .before .before .before .before .args .text .now) (c .before .before .before .before .loop .i)
+    (sym (c .before .has .ensures) ∙ not-true _ (c .if1 .taken)))
 
 add-t5 : tie.Need-add-t5 Inv-loop μ-loop
 add-t5 c = omega arith
@@ -42,7 +44,8 @@ loop-again : tie.Need-loop-again Inv-loop μ-loop
 loop-again c =
     let x = c .before .before .before .before .before .before .before .args .text .now in
     let i = c .before .before .before .before .before .loop .i in
-    c .before .before .before .before .before .loop .inv ∙ end-more blank x i (c .before .before .before .before .loop-test .taken) (sym (c .before .before .has .ensures) ∙ not-false _ (c .before .if1 .left))
+    c .before .before .before .before .before .loop .inv ∙ end-more blank x i (c .before .before .before .before .loop-test .taken)
+    (sym (c .before .before .has .ensures) ∙ not-false _ (c .before .if1 .left))
     ∙ ap (endOf blank x) (sym (add-one i)) ∙ end-spaces x (c .spaces .ensures)
 
 returns-2 : tie.Need-returns-2 Inv-loop μ-loop

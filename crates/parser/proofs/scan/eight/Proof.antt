@@ -75,7 +75,41 @@ joined-requires-8 : tie.Need-joined-requires-8
 joined-requires-8 c κs = search needs
 
 returns : tie.Need-returns
-returns c = (rw add-zero (omega (arith, c .joined8 .ensures .0, c .before .joined7 .ensures .0, c .before .before .joined6 .ensures .0, c .before .before .before .joined5 .ensures .0, c .before .before .before .before .before .before .before .before .joined4 .ensures .0, c .before .before .before .before .before .before .before .before .before .joined3 .ensures .0, c .before .before .before .before .before .before .before .before .before .before .joined2 .ensures .0, c .before .before .before .before .before .before .before .before .before .before .before .joined .ensures .0)), (rw add-zero (c .joined8 .ensures .1), (c .before .joined7 .ensures .1, (c .before .before .joined6 .ensures .1, (c .before .before .before .joined5 .ensures .1, (c .before .before .before .before .before .before .before .before .joined4 .ensures .1, (c .before .before .before .before .before .before .before .before .before .joined3 .ensures .1, (c .before .before .before .before .before .before .before .before .before .before .joined2 .ensures .1, (c .before .before .before .before .before .before .before .before .before .before .before .joined .ensures .1, tt)))))))))
+returns c = (
+  rw add-zero (omega (
+    arith,
+    c .joined8 .ensures .0,
+    c .before .joined7 .ensures .0,
+    c .before .before .joined6 .ensures .0,
+    c .before .before .before .joined5 .ensures .0,
+    c .before .before .before .before .before .before .before .before .joined4 .ensures .0,
+    c .before .before .before .before .before .before .before .before .before .joined3 .ensures .0,
+    c .before .before .before .before .before .before .before .before .before .before .joined2 .ensures .0,
+    c .before .before .before .before .before .before .before .before .before .before .before .joined .ensures .0,
+  )),
+  (
+    rw add-zero (c .joined8 .ensures .1),
+    (
+      c .before .joined7 .ensures .1,
+      (
+        c .before .before .joined6 .ensures .1,
+        (
+          c .before .before .before .joined5 .ensures .1,
+          (
+            c .before .before .before .before .before .before .before .before .joined4 .ensures .1,
+            (
+              c .before .before .before .before .before .before .before .before .before .joined3 .ensures .1,
+              (
+                c .before .before .before .before .before .before .before .before .before .before .joined2 .ensures .1,
+                (c .before .before .before .before .before .before .before .before .before .before .before .joined .ensures .1, tt),
+              ),
+            ),
+          ),
+        ),
+      ),
+    ),
+  ),
+)
 
 pub eight-spec : {M : Type 1} → statement M
 eight-spec =

@@ -29,7 +29,9 @@ loop-less : tie.Need-loop-less Inv-loop μ-loop
 loop-less c = omega arith
 
 loop-again : tie.Need-loop-again Inv-loop μ-loop
-loop-again c = below-more (λ k. getD (c .before .before .before .before .before .args .text .now) k 0 ≤ c .larger .result) (c .before .before .before .loop .i) (λ k l. omega (arith, c .before .before .before .loop .inv k l, c .larger .ensures)) (omega (arith, c .larger .ensures))
+loop-again c =
+    below-more (λ k. getD (c .before .before .before .before .before .args .text .now) k 0 ≤ c .larger .result) (c .before .before .before .loop .i)
+    (λ k l. omega (arith, c .before .before .before .loop .inv k l, c .larger .ensures)) (omega (arith, c .larger .ensures))
 
 returns : tie.Need-returns Inv-loop μ-loop
 returns c = λ k l. c .before .loop .inv k (omega (arith, l))

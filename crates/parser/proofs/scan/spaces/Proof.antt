@@ -40,7 +40,8 @@ loop-less c = omega (arith, c .before .before .loop-test .taken)
 loop-again : tie.Need-loop-again Inv-loop μ-loop
 loop-again c =
     let e = c .before .spaces-of-eight in
-    spaces-more (c .before .before .before .before .before .args .text .now) (c .before .before .before .loop .inv) (spaces-eight (c .before .before .before .before .before .args .text .now) (e .ensures .0) (e .ensures .1) (c .if1 .left))
+    spaces-more (c .before .before .before .before .before .args .text .now) (c .before .before .before .loop .inv)
+    (spaces-eight (c .before .before .before .before .before .args .text .now) (e .ensures .0) (e .ensures .1) (c .if1 .left))
 
 returns-2 : tie.Need-returns-2 Inv-loop μ-loop
 returns-2 c = c .before .loop .inv

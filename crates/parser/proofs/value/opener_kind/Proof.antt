@@ -22,7 +22,14 @@ returns-6 : tie.Need-returns-6
 returns-6 c = rw (c .before .match .keys4, c .if2 .left)
 
 returns-7 : tie.Need-returns-7
-returns-7 c = rw (ne-eqb (c .before .args .b) 123 (c .match .rest .0 .0 .0 .1), ne-eqb (c .before .args .b) 40 (c .match .rest .0 .0 .1), ne-eqb (c .before .args .b) 91 (c .match .rest .0 .1), ne-eqb (c .before .args .b) 34 (c .match .rest .1))
+returns-7 c =
+    rw (
+      ne-eqb (c .before .args .b) 123 (c .match .rest .0 .0 .0 .1),
+      ne-eqb (c .before .args .b) 40 (c .match .rest .0 .0 .1),
+      ne-eqb (c .before .args .b) 91 (c .match .rest .0 .1),
+      ne-eqb
+          (c .before .args .b) 34 (c .match .rest .1),
+    )
 
 pub opener-kind-spec : {M : Type 1} → statement M
 opener-kind-spec =

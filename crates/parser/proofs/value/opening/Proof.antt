@@ -16,10 +16,18 @@ opener-kind-requires : tie.Need-opener-kind-requires
 opener-kind-requires c κs = search needs
 
 returns : tie.Need-returns
-returns c = headed (c .before .before .before .before .before .before .before .before .before .before .args .text .now) (c .before .before .before .before .before .before .before .before .trimmed-ident .ensures) (c .before .before .before .before .before .before .before .before .before .before .pre) (c .before .opener-kind .result) 0 0 (c .before .opener-kind .ensures ∙ rw (c .before .before .before .before .peek .ensures)) (rw (eq-eqb (c .before .opener-kind .result) 2 (c .if1 .taken))) (rw (eq-eqb (c .before .opener-kind .result) 2 (c .if1 .taken)))
+returns c =
+    let s = c .before .before .before .before in
+    headed (s .before .before .before .before .before .before .args .text .now) (s .before .before .before .before .trimmed-ident .ensures) (s .before .before .before .before .before .before .pre)
+    (c .before .opener-kind .result) 0 0 (c .before .opener-kind .ensures ∙ rw (s .peek .ensures)) (rw (eq-eqb (c .before .opener-kind .result) 2 (c .if1 .taken)))
+    (rw (eq-eqb (c .before .opener-kind .result) 2 (c .if1 .taken)))
 
 returns-2 : tie.Need-returns-2
-returns-2 c = headed (c .before .before .before .before .before .before .before .before .before .before .args .text .now) (c .before .before .before .before .before .before .before .before .trimmed-ident .ensures) (c .before .before .before .before .before .before .before .before .before .before .pre) (c .before .opener-kind .result) _ _ (c .before .opener-kind .ensures ∙ rw (c .before .before .before .before .peek .ensures)) (rw (ne-eqb (c .before .opener-kind .result) 2 (c .if1 .left))) (rw (ne-eqb (c .before .opener-kind .result) 2 (c .if1 .left)))
+returns-2 c =
+    let s = c .before .before .before .before in
+    headed (s .before .before .before .before .before .before .args .text .now) (s .before .before .before .before .trimmed-ident .ensures) (s .before .before .before .before .before .before .pre)
+    (c .before .opener-kind .result) _ _ (c .before .opener-kind .ensures ∙ rw (s .peek .ensures)) (rw (ne-eqb (c .before .opener-kind .result) 2 (c .if1 .left)))
+    (rw (ne-eqb (c .before .opener-kind .result) 2 (c .if1 .left)))
 
 pub opening-spec : {M : Type 1} → statement M
 opening-spec =

@@ -23,10 +23,11 @@ peek-requires c κs = search needs
 
 returns : tie.Need-returns
 returns c =
-    let a = c .before .before .before .before .before .before .args in
+    let s = c .before .before .before .before .before .before in
+    let a = s .args in
     let r = c .before .before .before .run-of in
     let q = c .before .before .run-of2 in
-    λ o left. string-refused (a .text .now) o (a .at .0) (r .result .0) (q .result .0) (a .node .0) left (r .ensures) (q .ensures) (c .before .before .before .before .before .before .pre .0 .0) (λ e. c .if1 .taken (c .before .peek .ensures ∙ e))
+    λ o left. string-refused (a .text .now) o (a .at .0) (r .result .0) (q .result .0) (a .node .0) left (r .ensures) (q .ensures) (s .pre .0 .0) (λ e. c .if1 .taken (c .before .peek .ensures ∙ e))
 
 add-t14 : tie.Need-add-t14
 add-t14 c = search needs
@@ -43,23 +44,27 @@ close-row-requires c κs = search needs
 
 add-t14-2 : tie.Need-add-t14-2
 add-t14-2 c =
-    let a = c .before .before .before .before .before .before .before .before .before .before .before .before .before .before .before .before .args in
-    let r = c .before .before .before .before .before .before .before .before .before .before .before .before .before .run-of in
-    let q = c .before .before .before .before .before .before .before .before .before .before .before .before .run-of2 in
-    let h : r .result .0 ≤ length (a .text .now) = rw (r .ensures) (end-within stringSet (a .text .now) (a .at .0) (c .before .before .before .before .before .before .before .before .before .before .before .before .before .before .before .before .pre .0 .0)) in
+    let s = c .before .before .before .before .before .before .before .before .before .before .before .before in
+    let a = s .before .before .before .before .args in
+    let r = s .before .run-of in
+    let q = s .run-of2 in
+    let h : r .result .0 ≤ length (a .text .now) = rw (r .ensures) (end-within stringSet (a .text .now) (a .at .0) (s .before .before .before .before .pre .0 .0)) in
     let h′ : q .result .0 ≤ length (a .text .now) = rw (q .ensures) (end-within blank (a .text .now) (r .result .0) h) in
-    omega (arith, c .before .before .before .before .before .before .before .before .before .before .before .before .before .before .before .before .pre .0 .1)
+    omega (arith, s .before .before .before .before .pre .0 .1)
 
 same-length : tie.Need-same-length
 same-length c = search needs
 
 returns-2 : tie.Need-returns-2
 returns-2 c =
-    let a = c .before .before .before .before .before .before .before .before .before .before .before .before .before .before .before .before .args in
-    let r = c .before .before .before .before .before .before .before .before .before .before .before .before .before .run-of in
-    let q = c .before .before .before .before .before .before .before .before .before .before .before .before .run-of2 in
-    λ o left h. string-whole (a .text .now) o (a .at .0) (r .result .0) (q .result .0) (a .node .0) left (r .ensures) (q .ensures) (c .before .before .before .before .before .before .before .before .before .before .before .before .before .before .before .before .pre .0 .0) _ (add-one (q .result .0)) (add-one (a .node .0)) refl
-    (sym (c .before .before .before .before .before .before .before .before .before .before .before .peek .ensures) ∙ c .before .before .before .before .before .before .before .before .before .before .if1 .left) (c .before .before .before .before .before .before .before .before .before .before .before .before .before .before .before .before .pre .0 .2) h (c .before .before .before .before .before .before .before .open-row .ensures) (c .before .before .before .close-row .ensures)
+    let s = c .before .before .before .before .before .before .before in
+    let a = s .before .before .before .before .before .before .before .before .before .args in
+    let r = s .before .before .before .before .before .before .run-of in
+    let q = s .before .before .before .before .before .run-of2 in
+    λ o left h. string-whole (a .text .now) o (a .at .0) (r .result .0) (q .result .0) (a .node .0) left (r .ensures) (q .ensures)
+    (s .before .before .before .before .before .before .before .before .before .pre .0 .0) _ (add-one (q .result .0)) (add-one (a .node .0)) refl
+    (sym (s .before .before .before .before .peek .ensures) ∙ s .before .before .before .if1 .left) (s .before .before .before .before .before .before .before .before .before .pre .0 .2) h
+    (s .open-row .ensures) (c .before .before .before .close-row .ensures)
 
 pub string-spec : {M : Type 1} → statement M
 string-spec =
