@@ -46,7 +46,7 @@ pub record Put (m : Mapped (Policy Span)) (s s′ : Words) (r : Numbers) : Type 
   pub rows : s′ ≡ sets s 0 (spanRows (stringsIn m))
   pub counts : numbers r ≡ countsIn m
 
--- the first of the counted words that is to be set to 0 after a read, where `end` is the first after the strings that is
+-- the first of the counted words that is to be set to 0 after a read: after the strings of a policy that is `end`
 abbrev pub spareFrom : Left → (end : ℕ) → ℕ
 spareFrom untouched end = spanWords
 spareFrom cleared end = 0

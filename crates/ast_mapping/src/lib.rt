@@ -1,6 +1,6 @@
 // Reading a policy: the port of ast_mapping.rs. `read_policy` reads the tree of a text, maps it to a policy or a refusal, and leaves
-// the tree's rows and the policy's strings in two lent tables. Its contract cites the definitions of `cel_policy`, for every text and
-// both lengths, and asks nothing of the caller.
+// the tree's rows and the policy's strings in two lent tables; `read_over` leaves the words after them as they are. Both contracts cite the
+// definitions of `cel_policy`, for every text and both lengths, and ask nothing of the caller.
 mod mapping;
 pub mod name;
 mod row;

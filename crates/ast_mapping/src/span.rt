@@ -117,7 +117,7 @@ pub(crate) fn strings_end(policy: Policy) -> usize
     2 * (policy.request as usize + policy.query as usize + policy.response as usize)
 }
 
-// The first of the counted words that a read with this refusal has to set to 0, where `end` is the first after the strings.
+// The first of the counted words that a read with this refusal has to set to 0: after an accepted policy's strings that is `end`.
 pub(crate) fn spare(refusal: u32, end: usize) -> usize
     ensures { λ r. ⌜ r ≡ spareFrom (spansLeft refusal) end ⌝ }
 {
