@@ -181,16 +181,16 @@ policy-says r s e = λ i. record { form = e i .form; kind = e i .kind; request =
 pub read-policy :
     Kept read_policy.Kinds.ps read_policy.Kinds.r read_policy.Reads.Asked read_policy.Reads.Post (λ κs a r v.
     (policyTold r ≡ policyAnswer (length (now (a .1 .0))) (length (now (a .1 .1 .0))) (now (a .0)))
-    × (v .1 .0 ≡ policyNodes (now (a .0)) (now (a .1 .0)) (now (a .1 .1 .0)))
-    × (v .1 .1 .0 ≡ policySpans (now (a .0)) (now (a .1 .0)) (now (a .1 .1 .0))))
+    × ((v .1 .0 ≡ policyNodes (now (a .0)) (now (a .1 .0)) (now (a .1 .1 .0)))
+    × (v .1 .1 .0 ≡ policySpans (now (a .0)) (now (a .1 .0)) (now (a .1 .1 .0)))))
 read-policy =
     record {
       one = λ κs a r s v w e f. (
-          λ i. record {
-            answer = tree-says (r .answer) (s .answer) (λ j. meet (e .0) (f .0) j .answer) i;
-            policy = policy-says (r .policy) (s .policy) (λ j. meet (e .0) (f .0) j .policy) i;
-          },
-          λ i. (tt, (meet (e .1 .0) (f .1 .0) i, (meet (e .1 .1) (f .1 .1) i, tt))),
+        λ i. record {
+          answer = tree-says (r .answer) (s .answer) (λ j. meet (e .0) (f .0) j .answer) i;
+          policy = policy-says (r .policy) (s .policy) (λ j. meet (e .0) (f .0) j .policy) i;
+        },
+        λ i. (tt, (meet (e .1 .0) (f .1 .0) i, (meet (e .1 .1) (f .1 .1) i, tt))),
       );
       asks = λ κs a. tt;
       says = λ κs a r v e. e;
@@ -200,16 +200,16 @@ read-policy =
 pub policy-over :
     Kept policy_over.Kinds.ps policy_over.Kinds.r policy_over.Reads.Asked policy_over.Reads.Post (λ κs a r v.
     (policyTold r ≡ policyAnswer (length (now (a .1 .0))) (length (now (a .1 .1 .0))) (now (a .0)))
-    × (v .1 .0 ≡ policyNodesOver (now (a .0)) (now (a .1 .0)) (now (a .1 .1 .0)))
-    × (v .1 .1 .0 ≡ policySpansOver (now (a .0)) (now (a .1 .0)) (now (a .1 .1 .0))))
+    × ((v .1 .0 ≡ policyNodesOver (now (a .0)) (now (a .1 .0)) (now (a .1 .1 .0)))
+    × (v .1 .1 .0 ≡ policySpansOver (now (a .0)) (now (a .1 .0)) (now (a .1 .1 .0)))))
 policy-over =
     record {
       one = λ κs a r s v w e f. (
-          λ i. record {
-            answer = tree-says (r .answer) (s .answer) (λ j. meet (e .0) (f .0) j .answer) i;
-            policy = policy-says (r .policy) (s .policy) (λ j. meet (e .0) (f .0) j .policy) i;
-          },
-          λ i. (tt, (meet (e .1 .0) (f .1 .0) i, (meet (e .1 .1) (f .1 .1) i, tt))),
+        λ i. record {
+          answer = tree-says (r .answer) (s .answer) (λ j. meet (e .0) (f .0) j .answer) i;
+          policy = policy-says (r .policy) (s .policy) (λ j. meet (e .0) (f .0) j .policy) i;
+        },
+        λ i. (tt, (meet (e .1 .0) (f .1 .0) i, (meet (e .1 .1) (f .1 .1) i, tt))),
       );
       asks = λ κs a. tt;
       says = λ κs a r v e. e;
