@@ -1,7 +1,7 @@
 -- The answer of "read a tree" for every text and every table length, in document 01's numbers. S is the set of string bytes. Assumes nothing.
 use Prim.Native.Nat.{ℕ}
 use mathlib.Core.Bool.{Bool, cond}
-use mathlib.Core.List.{List, []}
+use mathlib.Core.List.{[]}
 use lib.ListN.{length}
 use lib.Dec.{ltb}
 use Rattle.cel_text.specs.Byte.{Text, ascii, lead, stringByte}
