@@ -223,7 +223,8 @@ fn label(text: &[u8], at: Place, kind: u32) -> Labelled
     })
 }
 
-// A child of a container of this kind: an entry, which is key, colon and value, in an object; a value elsewhere.
+// A child of a container of this kind: an entry, which is key, colon and value, in an object; a value elsewhere. Both by one
+// call of `cel_value`: two of them in the cycle would take more stack and time at every level.
 fn key_value(
     text: &[u8],
     table: &mut [u32],
