@@ -7,14 +7,12 @@ use mathlib.Core.List.{[], _++_, append-nil, append-assoc}
 use mathlib.Core.Option.{none, some}
 use lib.ListN.{length, take, drop, replicate, length-append, drop-of-length-le, take-append-drop}
 use lib.Seq.{sets, sets-eq, length-sets, length-take-le, take-all, take-at, drop-at, drop-append-le}
-use lib.Dec.{ltb}
 use borrow.Author.Tests.{lt-ltb, le-ltb, ne-eqb, le-leb}
-use Rattle.cel_text.specs.Byte.{Text, ascii, lead}
+use Rattle.cel_text.specs.Byte.{Text}
 use Rattle.cel_text.specs.Tree.{Tree}
-use Rattle.cel_text.specs.Reading.{syntax, tooDeep, tooMany, Outcome, accepted, refused, read, limits, maxNodes}
+use Rattle.cel_text.specs.Reading.{accepted, refused, read, limits, maxNodes, Fault}
 use Rattle.cel_text.specs.Table.{Words, Left, untouched, cleared, filled, rows, hold, holdOver, nodesLeft, nodeWords}
-use Rattle.cel_text.specs.Answer.{Found, tree, fault, found, findTree, answered, nodesAfter, treeAnswer, maxText, Answer as TreeAnswer}
-use Rattle.cel_text.specs.Laws.Class.{by-test}
+use Rattle.cel_text.specs.Answer.{Found, tree, fault, findTree, answered, nodesAfter, treeAnswer, Answer as TreeAnswer, faultNumber}
 use Rattle.cel_text.specs.Laws.Table.{hold-front}
 use Rattle.cel_policy.specs.Policy.{Span, Policy, Counted, counted, stringCount, noPolicy, allStrings, numbers}
 use Rattle.cel_policy.specs.Mapping.{Node, Mapped, good, bad, nodeOf, mapping}
@@ -22,6 +20,7 @@ use Rattle.cel_policy.specs.Spans.{spanRows, spanWords, spanTable, spansLeft}
 use Rattle.cel_policy.specs.Answers.{unread, judged, mapTree, findPolicy, PolicyAnswer, policyAnswered, nodesHeld, spansHeld, policyAnswer}
 use Rattle.cel_policy.specs.Laws.Shape.{Shape, skips, certifies}
 use Rattle.cel_policy.specs.Laws.Counts.{size, Meets, OfMapping, meets-mapping}
+use Rattle.cel_text.specs.Laws.Find.{FindsTree, finds, too-short, too-long, not-ascii, broken, whole, faultNumber-range}
 use Rattle.cel_policy.specs.Laws.SpanTable.{length-spanRows}
 use Rattle.parser.specs.Found.{told}
 use Rattle.parser.specs.Set.{stringSet}
@@ -34,24 +33,24 @@ use Rattle.ast_mapping.proofs.Written.{Rooted, rooted}
 
 -- ---- what reading a tree can find
 
+faultNumber-low : (f : Fault) → (1 ≤ faultNumber f) × (faultNumber f ≤ 6)
+faultNumber-low f = omega (arith, faultNumber-range f)
+
 module _ (w : ℕ) (x : Text) where
   -- a tree is what the text reads as; a fault has a number of 1 to 6
   abbrev Right : Found → Type 0
   Right (tree t q) = read stringSet limits x ≡ accepted t q
   Right (fault r p) = (1 ≤ r) × (r ≤ 6)
 
-  right-outcome : (o : Outcome) → read stringSet limits x ≡ o → Right (found o)
-  right-outcome (accepted t q) e = e
-  right-outcome (refused syntax p) e = omega arith
-  right-outcome (refused tooDeep p) e = omega arith
-  right-outcome (refused tooMany p) e = omega arith
-
   right : Right (findTree stringSet w x)
-  right =
-      by-test Right (ltb w nodeWords) _ _ (λ e. omega arith) (λ e.
-      by-test Right (ltb maxText (length x)) _ _ (λ e. omega arith) (λ e.
-      by-test Right (ltb (lead ascii x) (length x)) _ _ (λ e. omega arith) (λ e.
-      right-outcome (read stringSet limits x) refl)))
+  right = by (finds stringSet w x)
+    where
+      by : {f : Found} → FindsTree stringSet w x f → Right f
+      by (too-short a) = omega arith
+      by (too-long a b) = omega arith
+      by (not-ascii a b c) = omega arith
+      by (broken {f = f} p e) = faultNumber-low f
+      by (whole p e) = e
 
 -- ---- what the mapping can give
 

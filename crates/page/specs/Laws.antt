@@ -12,7 +12,7 @@ use Rattle.io.specs.Digits.{glyph}
 use Rattle.cel_text.specs.Byte.{Text, over, byte}
 use Rattle.lines.specs.Texts.{numeral, pair}
 use Rattle.lines.specs.Laws.{AllDigits, numeral-digits}
-use Rattle.cel_policy.specs.Laws.Ascii.{run-append}
+use Rattle.cel_text.specs.Laws.Class.{run-append}
 use Rattle.page.specs.Page.{plain, shownByte, saidByte, shown, said, legibleByte, Legible}
 
 -- two texts, of which one is chosen

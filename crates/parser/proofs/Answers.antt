@@ -12,6 +12,7 @@ use Rattle.cel_text.specs.Tree.{Tree, nodes, unkeyed}
 use Rattle.cel_text.specs.Reading.{Fault, syntax, tooDeep, tooMany, root, read, limits, maxDepth}
 use Rattle.cel_text.specs.Table.{Words, rows, Left, cleared, holdOver, nodesLeft, nodeWords}
 use Rattle.cel_text.specs.Laws.Table.{length-rowsOf}
+use Rattle.cel_text.specs.Laws.Find.{find-passes}
 use Rattle.cel_text.specs.Answer.{Found, tree, fault, found, findTree, nodesAfter, refusedAt, treeAnswer, treeTable, treeOver, faultNumber, maxText}
 use Rattle.parser.specs.Set.{stringSet}
 use Rattle.parser.specs.declared.Step.{Step}
@@ -34,8 +35,7 @@ find-other x p h e b =
 find-read : (x : Text) (p : ℕ) → length x ≤ maxText → p ≡ endOf ascii x 0 → length x ≤ p → findTree stringSet nodeWords x ≡ found (read stringSet limits x)
 find-read x p h e b =
     let here : p ≡ lead ascii x = e ∙ zero-add (lead ascii x) in
-    let all : length x ≤ lead ascii x = omega arith in
-    rw (le-ltb maxText (length x) h, le-ltb (lead ascii x) (length x) all)
+    find-passes stringSet nodeWords x (record { enough = omega arith; short = h; low = omega arith })
 
 fault-clears : (f : Fault) → nodesLeft (faultNumber f) ≡ cleared
 fault-clears syntax = refl

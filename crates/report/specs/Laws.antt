@@ -12,7 +12,7 @@ use Rattle.cel_policy.specs.Names.{spelling, spellings}
 use Rattle.cel_policy.specs.Policy.{Span, Counted, skip, full}
 use Rattle.cel_policy.specs.Spans.{spansAt, spanWords}
 use Rattle.cel_policy.specs.Answers.{Printing, written, unprinted, findPrint, allOf, PolicyAnswer, policyAnswer, policyNodes, policySpans}
-use Rattle.cel_policy.specs.Laws.Ascii.{run-append}
+use Rattle.cel_text.specs.Laws.Class.{run-append}
 use Rattle.cel_policy.specs.Laws.Each.{each-getD, each-of, run-of}
 use Rattle.page.specs.Page.{legibleByte, Legible}
 use Rattle.page.specs.Laws.{legible-cond, shown-legible, said-legible, spaces-legible}

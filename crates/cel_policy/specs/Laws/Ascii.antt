@@ -3,14 +3,13 @@ use mathlib.Core.Path.{_≡_, refl, ap, subst}
 use Prim.Native.Nat.{ℕ, suc, _≤_}
 use native.Mathlib.Omega.{arith}
 use mathlib.Core.Bool.{Bool, true, false}
-use mathlib.Core.List.{_++_}
 use lib.ListN.{length}
 use lib.Dec.{T, ltb}
 use borrow.Author.Tests.{ltb-false, le-leb, lt-leb, ne-eqb}
 use Rattle.cel_text.specs.Byte.{Text, Run, over, byte, ascii, identByte, stringByte, alphanumeric, lead}
 use Rattle.cel_text.specs.Tree.{Kind, array, object, function, opener, closer}
 use Rattle.cel_text.specs.Abstract.{Ast, str, con, Asts, ε, _▪_∶_, label, separator, write, writeAll, GoodName, GoodKey, Writable, WritableAll}
-use Rattle.cel_text.specs.Laws.Class.{is-true}
+use Rattle.cel_text.specs.Laws.Class.{is-true, run-append}
 use Rattle.cel_policy.specs.Policy.{Policy, allStrings}
 use Rattle.cel_policy.specs.Printed.{Each, printed, Proper}
 use Rattle.cel_policy.specs.Laws.Shape.{Shape, skips, certifies, shape-of}
@@ -40,11 +39,6 @@ identByte-low = low identByte (λ b h. rw (high-alphanumeric b h, ne-eqb b 95 (o
 pub stringByte-low : Low stringByte
 unfolding stringByte
 stringByte-low = low stringByte (λ b h. rw (high-alphanumeric b h, ne-eqb b 45 (omega arith)))
-
--- runs of one class
-pub run-append : {f : ℕ → Bool} {x y : Text} → Run f x → Run f y → Run f (x ++ y)
-run-append over r = r
-run-append (byte h s) r = byte h (run-append s r)
 
 run-low : {f : ℕ → Bool} {x : Text} → Low f → Run f x → Run ascii x
 run-low l over = over

@@ -12,7 +12,7 @@ use Rattle.cel_text.specs.Byte.{Text, Run, Plain, ascii, stringByte}
 use Rattle.cel_text.specs.Tree.{Tree, nodes, depth}
 use Rattle.cel_text.specs.Table.{Words, nodeWords}
 use Rattle.cel_text.specs.Answer.{maxText}
-use Rattle.cel_text.specs.Laws.Class.{stringByte-plain}
+use Rattle.cel_text.specs.Laws.Class.{stringByte-plain, run-append}
 use Rattle.cel_text.specs.Laws.Find.{find-passes}
 use Rattle.cel_policy.specs.Policy.{Span, Policy, Counted, counted, strings}
 use Rattle.cel_policy.specs.Meaning.{ReadAs}
@@ -23,7 +23,7 @@ use Rattle.cel_policy.specs.Laws.RoundTrip.{round-trip}
 use Rattle.cel_policy.specs.Laws.Readable.{readable}
 use Rattle.cel_policy.specs.Laws.SpanTable.{counted-placed, placed-table, print-read, prints}
 use Rattle.cel_policy.specs.Laws.Refusals.{Gives, OfPrint, print-gives}
-use Rattle.cel_policy.specs.Laws.Ascii.{Low, stringByte-low, run-append, lead-run, ascii-printed}
+use Rattle.cel_policy.specs.Laws.Ascii.{Low, stringByte-low, lead-run, ascii-printed}
 
 -- a text that is read as a policy, and is within the limits, is found to be it
 pub find-read :

@@ -2,9 +2,9 @@
 use mathlib.Core.Path.{_≡_, refl, sym, subst}
 use Prim.Native.Nat.{ℕ, zero, suc}
 use mathlib.Core.Bool.{Bool, true, false, cond, _||_}
-use mathlib.Core.List.{[], _∷_}
+use mathlib.Core.List.{[], _∷_, _++_}
 use lib.Dec.{T, eqb, eqb→eq}
-use Rattle.cel_text.specs.Byte.{Text, bytes, blank, identByte, stringByte, comma, Plain}
+use Rattle.cel_text.specs.Byte.{Text, Run, over, byte, bytes, blank, identByte, stringByte, comma, Plain}
 use Rattle.cel_text.specs.Tree.{Kind, array, object, function, closer}
 
 -- a test's value from a proof of it, and from a refutation
@@ -93,3 +93,8 @@ ident-members = refl
 string-members : members stringByte 256 0 ≡ bytes "-0123456789ABCDEFGHIJKLMNOPQRSTUVWXYZabcdefghijklmnopqrstuvwxyz"
 unfolding members stringByte
 string-members = refl
+
+-- runs of one class
+pub run-append : {f : ℕ → Bool} {x y : Text} → Run f x → Run f y → Run f (x ++ y)
+run-append over r = r
+run-append (byte h s) r = byte h (run-append s r)

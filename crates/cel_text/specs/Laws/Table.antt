@@ -7,15 +7,14 @@ use mathlib.Core.Bool.{Bool}
 use mathlib.Core.List.{[], _++_, append-nil, append-assoc}
 use lib.ListN.{length, take, drop, replicate, take-append-drop, drop-of-length-le, length-append, length-drop, length-replicate}
 use lib.Seq.{length-take-le, drop-append-le, drop-at}
-use lib.Dec.{ltb}
-use borrow.Author.Tests.{le-leb, le-ltb}
-use Rattle.cel_text.specs.Byte.{Text, ascii, lead, stringByte}
+use borrow.Author.Tests.{le-leb}
+use Rattle.cel_text.specs.Byte.{Text, stringByte}
 use Rattle.cel_text.specs.Tree.{Key, unkeyed, Tree, string, container, Trees, ∅, _▸_∶_, nodes, nodesAll}
-use Rattle.cel_text.specs.Reading.{syntax, tooDeep, tooMany, Outcome, accepted, refused, read, limits}
+use Rattle.cel_text.specs.Reading.{syntax, tooDeep, tooMany, accepted, read, limits, Fault}
 use Rattle.cel_text.specs.Table.{Words, rowsOf, rowsAll, rows, rowWords, wordsAt, rowAt, nodeWords, Left, untouched, cleared, filled, hold, holdOver}
-use Rattle.cel_text.specs.Answer.{Found, found, maxText, nodesAfter, treeAnswer, treeTable, treeOver}
-use Rattle.cel_text.specs.Laws.Class.{by-test}
+use Rattle.cel_text.specs.Answer.{Found, nodesAfter, treeAnswer, treeTable, treeOver, fault, faultNumber}
 use Rattle.cel_text.specs.Laws.Sound.{within}
+use Rattle.cel_text.specs.Laws.Find.{FindsTree, too-short, too-long, not-ascii, broken, whole, finds}
 
 -- eight words for each node
 mutual
@@ -74,21 +73,23 @@ module _ (x : Text) (w : Words) (h : nodeWords ≤ length w) where
   same-cleared : holdOver cleared nodeWords [] clean ≡ hold cleared nodeWords [] w
   same-cleared = hold-cleared cleared nodeWords [] w (λ e. let z : _≡_ {A = ℕ} 0 1 = cc in omega arith) (omega arith)
 
-  same-read : (o : Outcome) → read stringByte limits x ≡ o → Same (found o)
-  same-read (accepted t q) e =
+  same-fault : (f : Fault) (p : ℕ) → Same (fault (faultNumber f) p)
+  same-fault syntax p = same-cleared
+  same-fault tooDeep p = same-cleared
+  same-fault tooMany p = same-cleared
+
+  same-found : {f : Found} → FindsTree stringByte (length w) x f → Same f
+  same-found (too-short a) = absurd (omega arith)
+  same-found (too-long a b) = same-cleared
+  same-found (not-ascii a b c) = same-cleared
+  same-found (broken {f = f} {p = p} a e) = same-fault f p
+  same-found (whole {t = t} {q = q} a e) =
       hold-cleared filled nodeWords (rows t) w (λ e. let z : _≡_ {A = ℕ} 0 1 = cc in omega arith) (rows-fit stringByte x t q e)
-  same-read (refused syntax p) e = same-cleared
-  same-read (refused tooDeep p) e = same-cleared
-  same-read (refused tooMany p) e = same-cleared
 
   -- to read over a cleared table is to read
   pub over-cleared : treeOver x clean ≡ treeTable x w
   unfolding treeOver treeTable
-  over-cleared =
-      rw (length-cleared nodeWords w h, le-ltb (length w) nodeWords h)
-      (by-test Same (ltb maxText (length x)) _ _ (λ e. same-cleared) (λ e.
-      by-test Same (ltb (lead ascii x) (length x)) _ _ (λ e. same-cleared) (λ e.
-      same-read (read stringByte limits x) refl)))
+  over-cleared = rw (length-cleared nodeWords w h) (same-found (finds stringByte (length w) x))
 
   pub answer-cleared : treeAnswer (length clean) x ≡ treeAnswer (length w) x
   answer-cleared = ap (λ (n : ℕ). treeAnswer n x) (length-cleared nodeWords w h)
