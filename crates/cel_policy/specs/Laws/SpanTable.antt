@@ -17,7 +17,8 @@ use Rattle.cel_text.specs.Laws.Class.{by-test, is-true}
 use Rattle.cel_policy.specs.Policy.{Span, Policy, Counted, counted, stringCount, allStrings, content, strings}
 use Rattle.cel_policy.specs.Spans.{spanRows, spanTable, spanAt, spansAt}
 use Rattle.cel_policy.specs.Printed.{Each, nothing, each, printed, shaped, Printable}
-use Rattle.cel_policy.specs.Answers.{placed, spanFits, allOf, bytesFit, firstFault, Judgement, clean, faulty, unlessFaulty, judgement, Printing, written, unprinted, unlessJudged, sized, findPrint}
+use Rattle.cel_policy.specs.Answers.{placed, spanFits, allOf, bytesFit, firstFault, Judgement, clean, faulty}
+use Rattle.cel_policy.specs.Answers.{unlessFaulty, judgement, Printing, written, unprinted, unlessJudged, sized, findPrint}
 use Rattle.cel_policy.specs.Laws.Each.{each-map, run-of}
 use Rattle.cel_policy.specs.Laws.Natural.{allStrings-over}
 use Rattle.cel_policy.specs.Laws.Shape.{shape-right}
