@@ -14,8 +14,8 @@ use Rattle.cel_policy.specs.Spans.{spanAt}
 use Rattle.cel_policy.specs.Printed.{joined, listText, total, listLength}
 use Rattle.cel_policy.specs.Laws.SpanTable.{length-spansAt}
 use Rattle.cel_policy.specs.Laws.Judging.{SpanInside, SpansInside}
-use Rattle.pieces.specs.Pieces.{Wrote}
-use Rattle.pieces.specs.Laws.{wrote-none, wrote-then}
+use Rattle.pieces.specs.Pieces.{Wrote, Fits}
+use Rattle.pieces.specs.Laws.{wrote-none, wrote-as, wrote-then, fits-as}
 use Rattle.create_cel_expr.specs.Given.{stringsAt, wordSize}
 
 -- strings after another one
@@ -60,23 +60,35 @@ module _ (x : Text) (ws : Words) (begin count : ℕ) where
   abbrev pub Going : (out₀ : Text) (past₀ : ℕ) (out : Text) (past i : ℕ) → Type 0
   Going out₀ past₀ out past i = (out′ : Text) (past′ : ℕ) → Wrote out out′ past past′ (restOf i) → Wrote out₀ out′ past₀ past′ (restOf 1)
 
+  rest-next : (i : ℕ) → i < count → restOf i ≡ (bytes "\",\"" ++ content x (spanAt ws (begin + i))) ++ restOf (i + 1)
+  rest-next i h = rw (left-next i h) (simp append-assoc)
+
+  rest-last : (i : ℕ) → count ≤ i → restOf i ≡ bytes "\""
+  rest-last i h = rw (left-none i h)
+
+  list-first : (count ≡ 0 → ⊥) → listText (stringsAt x ws count begin) ≡ (bytes "\"" ++ content x (spanAt ws begin)) ++ restOf 1
+  list-first n =
+      ap listText (left-first n) ∙ ap (λ (r : Text). bytes "\"" ++ (r ++ bytes "\"")) (joined-tails (content x (spanAt ws begin)) (leftOf 1)) ∙ simp append-assoc
+
+  -- room for the list is room for its first string and for what follows, and so on
+  pub room-list : {out : Text} {at : ℕ} → (count ≡ 0 → ⊥) → Fits out at (listText (stringsAt x ws count begin)) → Fits out at ((bytes "\"" ++ content x (spanAt ws begin)) ++ restOf 1)
+  room-list n f = fits-as (list-first n) f
+
+  pub room-next : {out : Text} {past i : ℕ} → i < count → Fits out past (restOf i) → Fits out past ((bytes "\",\"" ++ content x (spanAt ws (begin + i))) ++ restOf (i + 1))
+  room-next {i = i} h f = fits-as (rest-next i h) f
+
+  pub room-last : {out : Text} {past i : ℕ} → count ≤ i → Fits out past (restOf i) → Fits out past (bytes "\"")
+  room-last {i = i} h f = fits-as (rest-last i h) f
+
   pub going-next :
       {out₀ out out″ : Text} {past₀ past past″ i : ℕ} → i < count → Going out₀ past₀ out past i
       → Wrote out out″ past past″ (bytes "\",\"" ++ content x (spanAt ws (begin + i))) → Going out₀ past₀ out″ past″ (i + 1)
-  going-next {out = out} {past = past} {i = i} h g w out′ past′ v =
-      let next : restOf i ≡ (bytes "\",\"" ++ content x (spanAt ws (begin + i))) ++ restOf (i + 1) = rw (left-next i h) (simp append-assoc) in
-      g out′ past′ (subst (Wrote out out′ past past′) (sym next) (wrote-then w v))
+  going-next {i = i} h g w out′ past′ v = g out′ past′ (wrote-as (sym (rest-next i h)) (wrote-then w v))
 
   pub going-last :
       {out₀ out₁ out out′ : Text} {at past₁ past past′ i : ℕ} → (count ≡ 0 → ⊥) → Wrote out₀ out₁ at past₁ (bytes "\"" ++ content x (spanAt ws begin))
       → count ≤ i → Going out₁ past₁ out past i → Wrote out out′ past past′ (bytes "\"") → Wrote out₀ out′ at past′ (listText (stringsAt x ws count begin))
-  going-last {out₀ = out₀} {out = out} {out′ = out′} {at = at} {past = past} {past′ = past′} {i = i} n w h g v =
-      let s : Text = content x (spanAt ws begin) in
-      let all : listText (stringsAt x ws count begin) ≡ (bytes "\"" ++ s) ++ restOf 1 =
-      ap listText (left-first n) ∙ ap (λ (r : Text). bytes "\"" ++ (r ++ bytes "\"")) (joined-tails s (leftOf 1)) ∙ simp append-assoc
-      in
-      let rest : restOf i ≡ bytes "\"" = rw (left-none i h) in
-      subst (Wrote out₀ out′ at past′) (sym all) (wrote-then w (g out′ past′ (subst (Wrote out out′ past past′) (sym rest) v)))
+  going-last {out′ = out′} {past′ = past′} {i = i} n w h g v = wrote-as (sym (list-first n)) (wrote-then w (g out′ past′ (wrote-as (sym (rest-last i h)) v)))
 
   -- ---- added up
 

@@ -6,14 +6,14 @@ use native.Mathlib.Omega.{arith}
 use mathlib.Core.List.{_++_}
 use lib.ListN.{length, drop}
 use borrow.Author.Tests.{lt-ltb, le-ltb, eq-eqb, ne-eqb}
-use Rattle.cel_text.specs.Byte.{Text}
+use Rattle.cel_text.specs.Byte.{Text, bytes}
 use Rattle.cel_text.specs.Answer.{maxText}
-use Rattle.cel_policy.specs.Policy.{Policy, skip, responseOnly}
-use Rattle.cel_policy.specs.Printed.{listLength, printed, printedLength}
+use Rattle.cel_policy.specs.Policy.{Policy, skip, responseOnly, exclusions}
+use Rattle.cel_policy.specs.Printed.{listLength, listKey, skipText, responseOnlyText, fullText, printed, printedLength}
 use Rattle.cel_policy.specs.Answers.{Printing, unprinted, sized, PrintAnswer, printAnswered, output}
 use Rattle.cel_policy.specs.Laws.Lengths.{length-printed}
 use Rattle.cel_policy.specs.Laws.Entries.{sized-fits}
-use Rattle.pieces.specs.Pieces.{Wrote}
+use Rattle.pieces.specs.Pieces.{Wrote, Fits}
 use Rattle.pieces.specs.Laws.{wrote-whole}
 
 -- ---- the length of each form
@@ -31,6 +31,26 @@ module _ (p : Policy Text) where
       → r ≡ listLength (p .responseHeaders) → 274 + a + b + r ≡ printedLength p
   unfolding printedLength
   length-full n m ea eb er = rw (ne-eqb (p .form) skip n, ne-eqb (p .form) responseOnly m) (omega (arith, ea, eb, er))
+
+-- ---- the text of each form, and the key of each kind
+module _ (p : Policy Text) where
+  pub printed-skip : p .form ≡ skip → printed p ≡ skipText
+  unfolding printed
+  printed-skip e = rw (eq-eqb (p .form) skip e)
+
+  pub printed-response-only : p .form ≡ responseOnly → printed p ≡ responseOnlyText p
+  unfolding printed
+  printed-response-only e = rw (ne-eqb (p .form) skip (λ f. omega arith), eq-eqb (p .form) responseOnly e)
+
+  pub printed-full : (p .form ≡ skip → ⊥) → (p .form ≡ responseOnly → ⊥) → printed p ≡ fullText p
+  unfolding printed
+  printed-full n m = rw (ne-eqb (p .form) skip n, ne-eqb (p .form) responseOnly m)
+
+pub key-exclusions : (kind : ℕ) → kind ≡ exclusions → listKey kind ≡ bytes "response_header_exclusions"
+key-exclusions kind e = rw (eq-eqb kind exclusions e)
+
+pub key-inclusions : (kind : ℕ) → (kind ≡ exclusions → ⊥) → listKey kind ≡ bytes "certified_response_headers"
+key-inclusions kind n = rw (ne-eqb kind exclusions n)
 
 -- ---- what is printed
 
@@ -55,6 +75,9 @@ module _ (p : Policy Text) (out : Text) {n : ℕ} (measured : n ≡ printedLengt
 
   pub gave-24 : {a : PrintAnswer} → n ≤ maxText → length out < n → a ≡ printAnswered (unprinted 24 0) → Gave a out out (sized (printed p) (length out))
   gave-24 h r e = rw (sized-24 (printed p) (length out) (omega (arith, measured, long)) (omega (arith, measured, long))) (e, refl)
+
+  pub measured-fits : n ≤ length out → Fits out 0 (printed p)
+  measured-fits r = record { room = omega (arith, measured, long) }
 
   pub gave-written : {out′ : Text} {past : ℕ} → n ≤ maxText → n ≤ length out → Wrote out out′ 0 past (printed p)
       → Gave (record { refusal = 0; name = 0; kind = 0; place = 0; length = n }) out out′ (sized (printed p) (length out))

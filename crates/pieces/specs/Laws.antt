@@ -1,5 +1,5 @@
 -- What is true of pieces: two that follow one another are one, and one that fits is there whole. Assumes nothing.
-use mathlib.Core.Path.{_≡_, refl, sym, ap, _∙_}
+use mathlib.Core.Path.{_≡_, refl, sym, ap, subst, _∙_}
 use Prim.Native.Nat.{ℕ, suc, _+_, _-_, _≤_, min}
 use native.Mathlib.Nat.{add-zero, min-eq-left, min-eq-right, min-le-right, min-zero, zero-min}
 use native.Mathlib.Decide.{decLe}
@@ -8,7 +8,7 @@ use mathlib.Core.List.{List, [], _∷_, _++_, append-assoc, append-nil}
 use lib.ListN.{length, set, take, drop, length-append, length-drop, drop-of-length-le, take-append-drop}
 use lib.Seq.{sets, sets-eq, set-out, length-sets, length-take-le, take-all, take-length, drop-drop}
 use borrow.Rule.Slice.PartMut.{putMid, midOf}
-use Rattle.pieces.specs.Pieces.{pastOf, Wrote}
+use Rattle.pieces.specs.Pieces.{pastOf, Wrote, Fits}
 
 pub sets-append : {A : Type 0} (vs ws l : List A) (i : ℕ) → sets l i (vs ++ ws) ≡ sets (sets l i vs) (i + length vs) ws
 sets-append [] ws l i = rw add-zero
@@ -85,6 +85,22 @@ module _ {out out′ : List ℕ} {at past : ℕ} {t : List ℕ} (w : Wrote out o
   -- a piece that fits is there whole
   pub wrote-whole : at + length t ≤ length out → (past ≡ at + length t) × (out′ ≡ take at out ++ (t ++ drop (at + length t) out))
   wrote-whole h = (w .place ∙ past-fits out at t h, w .buffer ∙ sets-eq t out at h ∙ append-assoc (take at out) t (drop (at + length t) out))
+
+pub wrote-as : {out out′ : List ℕ} {at past : ℕ} {t u : List ℕ} → t ≡ u → Wrote out out′ at past t → Wrote out out′ at past u
+wrote-as {out = out} {out′ = out′} {at = at} {past = past} e w = subst (Wrote out out′ at past) e w
+
+-- ---- room
+
+pub fits-as : {out : List ℕ} {at : ℕ} {t u : List ℕ} → t ≡ u → Fits out at t → Fits out at u
+fits-as {out = out} {at = at} e f = subst (Fits out at) e f
+
+-- where two pieces have room the first has, and the second after it
+pub fits-first : {out : List ℕ} {at : ℕ} {t : List ℕ} (u : List ℕ) → Fits out at (t ++ u) → Fits out at t
+fits-first {t = t} u f = record { room = omega (arith, f .room, length-append t u) }
+
+pub fits-then : {out out′ : List ℕ} {at past : ℕ} {t u : List ℕ} → Wrote out out′ at past t → Fits out at (t ++ u) → Fits out′ past u
+fits-then {out = out} {at = at} {t = t} {u = u} w f =
+    record { room = omega (arith, f .room, length-append t u, wrote-length w, w .place ∙ past-fits out at t (fits-first {t = t} u f .room)) }
 
 -- ---- what a copy into a part of the buffer leaves
 

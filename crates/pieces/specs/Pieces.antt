@@ -1,6 +1,6 @@
 -- Texts written into a lent buffer, piece after piece. Assumes nothing.
 use mathlib.Core.Path.{_≡_}
-use Prim.Native.Nat.{ℕ, _+_, _-_, min}
+use Prim.Native.Nat.{ℕ, _+_, _-_, _≤_, min}
 use mathlib.Core.List.{List}
 use lib.ListN.{length}
 use lib.Seq.{sets}
@@ -13,3 +13,7 @@ pastOf out at piece = at + min (length piece) (length out - at)
 pub record Wrote (out out′ : List ℕ) (at past : ℕ) (piece : List ℕ) : Type 0 where
   pub place : past ≡ pastOf out at piece
   pub buffer : out′ ≡ sets out at piece
+
+-- the buffer has room for the whole piece from place `at` on
+pub record Fits (out : List ℕ) (at : ℕ) (piece : List ℕ) : Type 0 where
+  pub room : at + length piece ≤ length out

@@ -1,8 +1,8 @@
 -- `print_judged` meets its contract: a fault or a size refuses and leaves the output alone, else the text is written. Assumes nothing.
+use Rattle.create_cel_expr.proofs.Sizes.{gave-23, gave-24, measured-fits, gave-written}
 use lib.Dec.{lit≤}
 use Rattle.cel_policy.specs.Policy.{numbers}
 use Rattle.create_cel_expr.specs.Given.{policyOf}
-use Rattle.create_cel_expr.proofs.Sizes.{gave-23, gave-24, gave-written}
 use Rattle.create_cel_expr.proofs.Judgings.{judges-small, judges-inside, judges-few, gave-faulty, gave-clean}
 use Rattle.create_cel_expr.proofs.print_judged.Statement.{statement}
 use Rattle.create_cel_expr.proofs.print_judged.Tie as tie
@@ -57,8 +57,10 @@ returns-3 c =
 create-cel-expr-requires : tie.Need-create-cel-expr-requires
 create-cel-expr-requires c κs =
     let s = c .before .before .before .before .before .before .before .before .before in
-    let a = s .args in
-    judges-inside (numbers (a .policy)) (a .spans .now) (a .text .now) (s .pre) (c .before .before .before .before .enum-told .given .1)
+    let a = s .args in (
+      judges-inside (numbers (a .policy)) (a .spans .now) (a .text .now) (s .pre) (c .before .before .before .before .enum-told .given .1),
+      measured-fits (policyOf (a .policy) (a .text .now) (a .spans .now)) (a .out .now) (c .before .before .before .printed-length .ensures) (c .before .if2 .left),
+    )
 
 cast-t13 : tie.Need-cast-t13
 cast-t13 c = search needs

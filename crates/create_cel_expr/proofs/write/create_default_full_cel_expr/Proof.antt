@@ -1,6 +1,6 @@
 -- `write::create_default_full_cel_expr` meets its contract: four pieces, one after the other. Assumes nothing.
 use Rattle.cel_policy.specs.Printed.{fullText}
-use Rattle.pieces.specs.Laws.{wrote-then}
+use Rattle.pieces.specs.Laws.{wrote-then, fits-first, fits-then}
 use Rattle.create_cel_expr.proofs.write.create_default_full_cel_expr.Statement.{statement}
 use Rattle.create_cel_expr.proofs.write.create_default_full_cel_expr.Tie as tie
 use borrow.Author.Needs.{needs}
@@ -9,19 +9,27 @@ slice-aggregate-put : tie.Need-slice-aggregate-put
 slice-aggregate-put c = search needs
 
 put-requires : tie.Need-put-requires
-put-requires c κs = search needs
+unfolding fullText
+put-requires c κs =
+    fits-first _ (c .before .before .before .before .before .pre .1)
 
 create-request-cel-expr-requires : tie.Need-create-request-cel-expr-requires
-create-request-cel-expr-requires c κs = search needs
+unfolding fullText
+create-request-cel-expr-requires c κs =
+    (c .before .before .before .before .before .before .before .before .before .pre .0, fits-first _ (fits-then (c .before .before .before .put .ensures) (c .before .before .before .before .before .before .before .before .before .pre .1)))
 
 create-response-cel-expr-requires : tie.Need-create-response-cel-expr-requires
-create-response-cel-expr-requires c κs = search needs
+unfolding fullText
+create-response-cel-expr-requires c κs =
+    (c .before .before .before .before .before .before .before .before .before .before .before .before .before .pre .0, fits-first _ (fits-then (c .before .before .before .create-request-cel-expr .ensures) (fits-then (c .before .before .before .before .before .before .before .put .ensures) (c .before .before .before .before .before .before .before .before .before .before .before .before .before .pre .1))))
 
 slice-aggregate-put-2 : tie.Need-slice-aggregate-put-2
 slice-aggregate-put-2 c = search needs
 
 put-requires-2 : tie.Need-put-requires-2
-put-requires-2 c κs = search needs
+unfolding fullText
+put-requires-2 c κs =
+    fits-then (c .before .before .before .before .create-response-cel-expr .ensures) (fits-then (c .before .before .before .before .before .before .before .before .create-request-cel-expr .ensures) (fits-then (c .before .before .before .before .before .before .before .before .before .before .before .before .put .ensures) (c .before .before .before .before .before .before .before .before .before .before .before .before .before .before .before .before .before .before .pre .1)))
 
 same-length : tie.Need-same-length
 same-length c = search needs
@@ -29,10 +37,7 @@ same-length c = search needs
 returns : tie.Need-returns
 unfolding fullText
 returns c =
-    let o = c .before .before .before .before .before .before .before .before .before .before .before .before .before .before .before .put in
-    let q = c .before .before .before .before .before .before .before .before .before .before .before .create-request-cel-expr in
-    let r = c .before .before .before .before .before .before .before .create-response-cel-expr in
-    wrote-then (o .ensures) (wrote-then (q .ensures) (wrote-then (r .ensures) (c .before .before .put2 .ensures)))
+    wrote-then (c .before .before .before .before .before .before .before .before .before .before .before .before .before .before .before .put .ensures) (wrote-then (c .before .before .before .before .before .before .before .before .before .before .before .create-request-cel-expr .ensures) (wrote-then (c .before .before .before .before .before .before .before .create-response-cel-expr .ensures) (c .before .before .put2 .ensures)))
 
 pub create-default-full-cel-expr-spec : {M : Type 1} → statement M
 create-default-full-cel-expr-spec =

@@ -8,7 +8,9 @@ slice-aggregate-put : tie.Need-slice-aggregate-put
 slice-aggregate-put c = search needs
 
 put-requires : tie.Need-put-requires
-put-requires c κs = search needs
+unfolding skipText
+put-requires c κs =
+    c .before .before .before .pre
 
 same-length : tie.Need-same-length
 same-length c = search needs

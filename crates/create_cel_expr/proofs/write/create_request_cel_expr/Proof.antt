@@ -1,7 +1,7 @@
 -- `write::create_request_cel_expr` meets its contract: five pieces, one after the other. Assumes nothing.
 use Rattle.cel_policy.specs.Policy.{numbers}
 use Rattle.cel_policy.specs.Printed.{requestText}
-use Rattle.pieces.specs.Laws.{wrote-then}
+use Rattle.pieces.specs.Laws.{wrote-then, fits-first, fits-then}
 use Rattle.create_cel_expr.proofs.Lists.{inside-part}
 use borrow.Author.Needs.{needs}
 use Rattle.create_cel_expr.proofs.write.create_request_cel_expr.Statement.{statement}
@@ -18,29 +18,39 @@ slice-aggregate-put : tie.Need-slice-aggregate-put
 slice-aggregate-put c = search needs
 
 put-requires : tie.Need-put-requires
-put-requires c κs = search needs
+unfolding requestText
+put-requires c κs =
+    fits-first _ (c .before .before .before .before .before .before .before .pre .1)
 
 list-requires : tie.Need-list-requires
+unfolding requestText
 list-requires c κs =
     let s = c .before .before .before .before .before .before .before .before .before .before .before in
-    inside-part (numbers (s .args .policy)) (s .pre) 0 (s .args .policy .request) (omega arith)
+    (inside-part (numbers (s .args .policy)) (s .pre .0) 0 (s .args .policy .request) (omega arith), fits-first _ (fits-then (c .before .before .before .put .ensures) (s .pre .1)))
 
 slice-aggregate-put-2 : tie.Need-slice-aggregate-put-2
 slice-aggregate-put-2 c = search needs
 
 put-requires-2 : tie.Need-put-requires-2
-put-requires-2 c κs = search needs
+unfolding requestText
+put-requires-2 c κs =
+    fits-first _ (fits-then (c .before .before .before .before .list .ensures) (fits-then (c .before .before .before .before .before .before .before .before .put .ensures) (c .before .before .before .before .before .before .before .before .before .before .before .before .before .before .before .before .pre .1)))
 
 list-requires-2 : tie.Need-list-requires-2
+unfolding requestText
 list-requires-2 c κs =
-    let s = c .before .before .before .before .before .before .before .before .before .before .before .before .before .before .before .before .before .before .before .before in
-    inside-part (numbers (s .args .policy)) (s .pre) (s .args .policy .request) (s .args .policy .query) (omega arith)
+    let s = c .before .before .before .before .before .before .before .before .before .before .before .before .before .before .before .before .before .before .before .before in (
+      inside-part (numbers (s .args .policy)) (s .pre .0) (s .args .policy .request) (s .args .policy .query) (omega arith),
+      fits-first _ (fits-then (c .before .before .before .put2 .ensures) (fits-then (c .before .before .before .before .before .before .before .before .list .ensures) (fits-then (c .before .before .before .before .before .before .before .before .before .before .before .before .put .ensures) (s .pre .1)))),
+    )
 
 slice-aggregate-put-3 : tie.Need-slice-aggregate-put-3
 slice-aggregate-put-3 c = search needs
 
 put-requires-3 : tie.Need-put-requires-3
-put-requires-3 c κs = search needs
+unfolding requestText
+put-requires-3 c κs =
+    fits-then (c .before .before .before .before .list2 .ensures) (fits-then (c .before .before .before .before .before .before .before .before .put2 .ensures) (fits-then (c .before .before .before .before .before .before .before .before .before .before .before .before .before .list .ensures) (fits-then (c .before .before .before .before .before .before .before .before .before .before .before .before .before .before .before .before .before .put .ensures) (c .before .before .before .before .before .before .before .before .before .before .before .before .before .before .before .before .before .before .before .before .before .before .before .before .before .pre .1))))
 
 same-length : tie.Need-same-length
 same-length c = search needs
@@ -48,11 +58,11 @@ same-length c = search needs
 returns : tie.Need-returns
 unfolding requestText
 returns c =
-    let o = c .before .before .before .before .before .before .before .before .before .before .before .before .before .before .before .before .before .before .before .before .put in
-    let h = c .before .before .before .before .before .before .before .before .before .before .before .before .before .before .before .before .list in
-    let b = c .before .before .before .before .before .before .before .before .before .before .before .put2 in
-    let q = c .before .before .before .before .before .before .before .list2 in
-    wrote-then (o .ensures) (wrote-then (h .ensures) (wrote-then (b .ensures) (wrote-then (q .ensures) (c .before .before .put3 .ensures))))
+    let o = c .before .before .before .before .before .before .before .before .before .before .before .before .before .before .before .before .before .before .before .before in
+    let h = c .before .before .before .before .before .before .before .before .before .before .before .before .before .before .before .before in
+    let b = c .before .before .before .before .before .before .before .before .before .before .before in
+    let q = c .before .before .before .before .before .before .before in
+    wrote-then (o .put .ensures) (wrote-then (h .list .ensures) (wrote-then (b .put2 .ensures) (wrote-then (q .list2 .ensures) (c .before .before .put3 .ensures))))
 
 pub create-request-cel-expr-spec : {M : Type 1} → statement M
 create-request-cel-expr-spec =

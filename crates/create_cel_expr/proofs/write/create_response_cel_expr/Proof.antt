@@ -1,8 +1,10 @@
 -- `write::create_response_cel_expr` meets its contract: five pieces, one after the other. Assumes nothing.
-use mathlib.Core.Path.{sym}
+use mathlib.Core.Path.{sym, ap}
+use Prim.Native.Nat.{ℕ}
+use Rattle.cel_policy.specs.Printed.{listText, responseText}
+use Rattle.create_cel_expr.specs.Given.{stringsAt}
 use Rattle.cel_policy.specs.Policy.{numbers}
-use Rattle.cel_policy.specs.Printed.{responseText}
-use Rattle.pieces.specs.Laws.{wrote-then}
+use Rattle.pieces.specs.Laws.{wrote-as, wrote-then, fits-first, fits-then}
 use Rattle.create_cel_expr.proofs.Lists.{inside-part}
 use borrow.Author.Needs.{needs}
 use Rattle.create_cel_expr.proofs.write.create_response_cel_expr.Statement.{statement}
@@ -16,31 +18,45 @@ slice-aggregate-put : tie.Need-slice-aggregate-put
 slice-aggregate-put c = search needs
 
 put-requires : tie.Need-put-requires
-put-requires c κs = search needs
+unfolding responseText
+put-requires c κs =
+    fits-first _ (c .before .before .before .before .before .before .pre .1)
 
 list-key-requires : tie.Need-list-key-requires
-list-key-requires c κs = search needs
+unfolding responseText
+list-key-requires c κs =
+    fits-first _ (fits-then (c .before .before .before .put .ensures) (c .before .before .before .before .before .before .before .before .before .before .pre .1))
 
 slice-aggregate-put-2 : tie.Need-slice-aggregate-put-2
 slice-aggregate-put-2 c = search needs
 
 put-requires-2 : tie.Need-put-requires-2
-put-requires-2 c κs = search needs
+unfolding responseText
+put-requires-2 c κs =
+    fits-first _ (fits-then (c .before .before .before .before .list-key .ensures) (fits-then (c .before .before .before .before .before .before .before .before .put .ensures) (c .before .before .before .before .before .before .before .before .before .before .before .before .before .before .before .pre .1)))
 
 cast-list : tie.Need-cast-list
 cast-list c = search needs
 
 list-requires : tie.Need-list-requires
+unfolding responseText
 list-requires c κs =
     let s = c .before .before .before .before .before .before .before .before .before .before .before .before .before .before .before .before .before .before .before .before in
-    let b = c .before .before .before .before .before .before .before .before .before .before .before .before .before .before .before .before .response in
-    inside-part (numbers (s .args .policy)) (s .pre) (b .result) (s .args .policy .response) (omega (arith, b .ensures))
+    let b = c .before .before .before .before .before .before .before .before .before .before .before .before .before .before .before .before in (
+      inside-part (numbers (s .args .policy)) (s .pre .0) (b .response .result) (s .args .policy .response) (omega (arith, b .response .ensures)),
+      rw (b .response .ensures) (fits-first _ (fits-then (c .before .before .before .before .put2 .ensures) (fits-then (c .before .before .before .before .before .before .before .before .before .list-key .ensures) (fits-then (c .before .before .before .before .before .before .before .before .before .before .before .before .before .put .ensures) (s .pre .1))))),
+    )
 
 slice-aggregate-put-3 : tie.Need-slice-aggregate-put-3
 slice-aggregate-put-3 c = search needs
 
 put-requires-3 : tie.Need-put-requires-3
-put-requires-3 c κs = search needs
+unfolding responseText
+put-requires-3 c κs =
+    let s = c .before .before .before .before .before .before .before .before .before .before .before .before .before .before .before .before .before .before .before .before .before .before .before .before .before in
+    let l = c .before .before .before .before in
+    let from = ap (λ (b : ℕ). listText (stringsAt (s .args .text .now) (s .args .spans .now) (s .args .policy .response) b)) (c .before .before .before .before .before .before .before .before .before .before .before .before .before .before .before .before .before .before .before .before .before .response .ensures) in
+    fits-then (wrote-as from (l .list .ensures)) (fits-then (c .before .before .before .before .before .before .before .before .before .put2 .ensures) (fits-then (c .before .before .before .before .before .before .before .before .before .before .before .before .before .before .list-key .ensures) (fits-then (c .before .before .before .before .before .before .before .before .before .before .before .before .before .before .before .before .before .before .put .ensures) (s .pre .1))))
 
 same-length : tie.Need-same-length
 same-length c = search needs
@@ -49,11 +65,10 @@ returns : tie.Need-returns
 unfolding responseText
 returns c =
     let l = c .before .before .before .before .before .before .before in
-    let t = l .before .before .before .before .before in
-    let k = t .before .before .before .before .before in
-    let o = k .before .before .before .before in
-    let b = o .before .before .before in
-    rw (sym (b .response .ensures))
+    let t = c .before .before .before .before .before .before .before .before .before .before .before .before in
+    let k = c .before .before .before .before .before .before .before .before .before .before .before .before .before .before .before .before .before in
+    let o = c .before .before .before .before .before .before .before .before .before .before .before .before .before .before .before .before .before .before .before .before .before in
+    rw (sym (c .before .before .before .before .before .before .before .before .before .before .before .before .before .before .before .before .before .before .before .before .before .before .before .before .response .ensures))
     (wrote-then (o .put .ensures) (wrote-then (k .list-key .ensures) (wrote-then (t .put2 .ensures) (wrote-then (l .list .ensures) (c .before .before .put3 .ensures)))))
 
 pub create-response-cel-expr-spec : {M : Type 1} → statement M

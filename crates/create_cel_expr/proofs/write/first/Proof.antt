@@ -1,5 +1,5 @@
 -- `write::first` meets its contract: two pieces, one after the other. Assumes nothing.
-use Rattle.pieces.specs.Laws.{wrote-then}
+use Rattle.pieces.specs.Laws.{wrote-then, fits-first, fits-then}
 use borrow.Author.Needs.{needs}
 use Rattle.create_cel_expr.proofs.write.first.Statement.{statement}
 use Rattle.create_cel_expr.proofs.write.first.Tie as tie
@@ -8,10 +8,10 @@ slice-aggregate-put : tie.Need-slice-aggregate-put
 slice-aggregate-put c = search needs
 
 put-requires : tie.Need-put-requires
-put-requires c κs = search needs
+put-requires c κs = fits-first _ (c .before .before .before .before .before .pre .1)
 
 string-requires : tie.Need-string-requires
-string-requires c κs = search needs
+string-requires c κs = (c .before .before .before .before .before .before .before .before .before .pre .0, fits-then (c .before .before .before .put .ensures) (c .before .before .before .before .before .before .before .before .before .pre .1))
 
 same-length : tie.Need-same-length
 same-length c = search needs

@@ -1,18 +1,19 @@
 -- `write::list` meets its contract: at each turn whatever writes the rest of the list from here on has written all of it. Assumes nothing.
+use Rattle.pieces.specs.Pieces.{Fits}
+use Rattle.pieces.specs.Laws.{wrote-length, fits-first, fits-then}
+use Rattle.create_cel_expr.proofs.Lists.{Going, restOf, wrote-empty, room-list, room-next, room-last, going-next, going-last}
 use mathlib.Core.Path.{subst}
-use Prim.Native.Nat.{_-_, _≤_}
+use Prim.Native.Nat.{_+_, _-_, _≤_}
 use native.Mathlib.Nat.{add-zero}
 use lib.Dec.{lit≤}
 use Rattle.cel_policy.specs.Laws.Judging.{SpanInside}
-use Rattle.pieces.specs.Laws.{wrote-length}
-use Rattle.create_cel_expr.proofs.Lists.{Going, wrote-empty, going-next, going-last}
 use Rattle.create_cel_expr.proofs.write.list.Statement.{statement}
 use Rattle.create_cel_expr.proofs.write.list.Tie as tie
 use borrow.Author.Needs.{needs}
 use native.Mathlib.Omega.{arith}
 
 abbrev Inv-loop : tie.InvT-loop
-Inv-loop out₀ at text spans begin count past₀ i₀ out past i = (1 ≤ i) × Going text spans begin count out₀ past₀ out past i
+Inv-loop out₀ at text spans begin count past₀ i₀ out past i = (1 ≤ i) × Fits out past (restOf text spans begin count i) × Going text spans begin count out₀ past₀ out past i
 
 abbrev μ-loop : tie.MeasureT-loop
 μ-loop out₀ at text spans begin count past₀ i₀ out past i = count - i
@@ -25,21 +26,28 @@ returns c =
 first-requires : tie.Need-first-requires Inv-loop μ-loop
 first-requires c κs =
     let s = c .before .before .before .before .before in
-    let a = s .args in
-    subst (SpanInside (a .spans .now) (a .text .now)) (add-zero (a .begin)) (s .pre 0 (omega (arith, c .before .if1 .left)))
+    let a = s .args in (
+      subst (SpanInside (a .spans .now) (a .text .now)) (add-zero (a .begin)) (s .pre .0 0 (omega (arith, c .before .if1 .left))),
+      fits-first (restOf (a .text .now) (a .spans .now) (a .begin) (a .count) 1) (room-list (a .text .now) (a .spans .now) (a .begin) (a .count) (c .before .if1 .left) (s .pre .1)),
+    )
 
 loop-holds : tie.Need-loop-holds Inv-loop μ-loop
-loop-holds c = (lit≤ tt, λ out past w. w)
+loop-holds c =
+    let s = c .before .before .before .before .before .before .before .before in
+    let a = s .args in
+    (lit≤ tt, fits-then (c .before .before .first .ensures) (room-list (a .text .now) (a .spans .now) (a .begin) (a .count) (c .before .before .before .before .if1 .left) (s .pre .1)), λ out past w. w)
 
 add-next : tie.Need-add-next Inv-loop μ-loop
-add-next c =
-    let s = c .before .before .before .before .before .before .before .before .before .before .before in
-    record { fits = omega (arith, s .pre (c .before .before .loop .i) (c .before .loop-test .taken) .inTable) }
+add-next c = record { fits = omega (arith, c .before .before .before .before .before .before .before .before .before .before .before .pre .0 (c .before .before .loop .i) (c .before .loop-test .taken) .inTable) }
 
 next-requires : tie.Need-next-requires Inv-loop μ-loop
 next-requires c κs =
     let s = c .before .before .before .before .before .before .before .before .before .before .before in
-    s .pre (c .before .before .loop .i) (c .before .loop-test .taken)
+    let a = s .args in
+    let l = c .before .before in (
+      s .pre .0 (l .loop .i) (c .before .loop-test .taken),
+      fits-first (restOf (a .text .now) (a .spans .now) (a .begin) (a .count) (l .loop .i + 1)) (room-next (a .text .now) (a .spans .now) (a .begin) (a .count) (c .before .loop-test .taken) (l .loop .inv .1)),
+    )
 
 add-i : tie.Need-add-i Inv-loop μ-loop
 add-i c = search needs
@@ -51,18 +59,22 @@ loop-again : tie.Need-loop-again Inv-loop μ-loop
 loop-again c =
     let a = c .before .before .before .before .before .before .before .before .before .before .before .before .before .before .args in
     let l = c .before .before .before .before .before .loop in
-    (omega (arith, l .inv .0), going-next (a .text .now) (a .spans .now) (a .begin) (a .count) (c .before .before .before .before .loop-test .taken) (l .inv .1) (c .before .before .next .ensures))
+    let t = c .before .before .before .before .loop-test in (
+      omega (arith, l .inv .0),
+      fits-then (c .before .before .next .ensures) (room-next (a .text .now) (a .spans .now) (a .begin) (a .count) (t .taken) (l .inv .1)),
+      going-next (a .text .now) (a .spans .now) (a .begin) (a .count) (t .taken) (l .inv .2) (c .before .before .next .ensures),
+    )
 
 last-requires : tie.Need-last-requires Inv-loop μ-loop
-last-requires c κs = search needs
+last-requires c κs =
+    let a = c .before .before .before .before .before .before .before .before .before .before .before .args in
+    room-last (a .text .now) (a .spans .now) (a .begin) (a .count) (c .before .loop-test .left) (c .before .before .loop .inv .1)
 
 returns-2 : tie.Need-returns-2 Inv-loop μ-loop
 returns-2 c =
     let a = c .before .before .before .before .before .before .before .before .before .before .before .before .before .before .args in
-    let e = c .before .before .before .before .before .before .before .before .before .before .if1 in
-    let f = c .before .before .before .before .before .before .before .before .first in
-    let l = c .before .before .before .before .before .loop in
-    going-last (a .text .now) (a .spans .now) (a .begin) (a .count) (e .left) (f .ensures) (c .before .before .before .before .loop-test .left) (l .inv .1) (c .before .before .last .ensures)
+    let l = c .before .before .before .before .before in
+    going-last (a .text .now) (a .spans .now) (a .begin) (a .count) (c .before .before .before .before .before .before .before .before .before .before .if1 .left) (c .before .before .before .before .before .before .before .before .first .ensures) (c .before .before .before .before .loop-test .left) (l .loop .inv .2) (c .before .before .last .ensures)
 
 same-length : tie.Need-same-length Inv-loop μ-loop
 same-length c = wrote-length (returns-2 c)
