@@ -11,17 +11,23 @@ slice-aggregate-put c = search needs
 put-requires : tie.Need-put-requires
 unfolding fullText
 put-requires c κs =
-    fits-first _ (c .before .before .before .before .before .pre .1)
+    let s = c .before .before .before .before .before in
+    fits-first _ (s .pre .1)
 
 create-request-cel-expr-requires : tie.Need-create-request-cel-expr-requires
 unfolding fullText
 create-request-cel-expr-requires c κs =
-    (c .before .before .before .before .before .before .before .before .before .pre .0, fits-first _ (fits-then (c .before .before .before .put .ensures) (c .before .before .before .before .before .before .before .before .before .pre .1)))
+    let s = c .before .before .before .before .before .before .before .before .before in
+    let o = c .before .before .before in
+    (s .pre .0, fits-first _ (fits-then (o .put .ensures) (s .pre .1)))
 
 create-response-cel-expr-requires : tie.Need-create-response-cel-expr-requires
 unfolding fullText
 create-response-cel-expr-requires c κs =
-    (c .before .before .before .before .before .before .before .before .before .before .before .before .before .pre .0, fits-first _ (fits-then (c .before .before .before .create-request-cel-expr .ensures) (fits-then (c .before .before .before .before .before .before .before .put .ensures) (c .before .before .before .before .before .before .before .before .before .before .before .before .before .pre .1))))
+    let s = c .before .before .before .before .before .before .before .before .before .before .before .before .before in
+    let t = c .before .before .before in
+    let o = c .before .before .before .before .before .before .before in
+    (s .pre .0, fits-first _ (fits-then (t .create-request-cel-expr .ensures) (fits-then (o .put .ensures) (s .pre .1))))
 
 slice-aggregate-put-2 : tie.Need-slice-aggregate-put-2
 slice-aggregate-put-2 c = search needs
@@ -29,7 +35,11 @@ slice-aggregate-put-2 c = search needs
 put-requires-2 : tie.Need-put-requires-2
 unfolding fullText
 put-requires-2 c κs =
-    fits-then (c .before .before .before .before .create-response-cel-expr .ensures) (fits-then (c .before .before .before .before .before .before .before .before .create-request-cel-expr .ensures) (fits-then (c .before .before .before .before .before .before .before .before .before .before .before .before .put .ensures) (c .before .before .before .before .before .before .before .before .before .before .before .before .before .before .before .before .before .before .pre .1)))
+    let r = c .before .before .before .before in
+    let t = c .before .before .before .before .before .before .before .before in
+    let o = c .before .before .before .before .before .before .before .before .before .before .before .before in
+    let s = c .before .before .before .before .before .before .before .before .before .before .before .before .before .before .before .before .before .before in
+    fits-then (r .create-response-cel-expr .ensures) (fits-then (t .create-request-cel-expr .ensures) (fits-then (o .put .ensures) (s .pre .1)))
 
 same-length : tie.Need-same-length
 same-length c = search needs
@@ -37,7 +47,11 @@ same-length c = search needs
 returns : tie.Need-returns
 unfolding fullText
 returns c =
-    wrote-then (c .before .before .before .before .before .before .before .before .before .before .before .before .before .before .before .put .ensures) (wrote-then (c .before .before .before .before .before .before .before .before .before .before .before .create-request-cel-expr .ensures) (wrote-then (c .before .before .before .before .before .before .before .create-response-cel-expr .ensures) (c .before .before .put2 .ensures)))
+    let o = c .before .before .before .before .before .before .before .before .before .before .before .before .before .before .before in
+    let t = c .before .before .before .before .before .before .before .before .before .before .before in
+    let r = c .before .before .before .before .before .before .before in
+    let p = c .before .before in
+    wrote-then (o .put .ensures) (wrote-then (t .create-request-cel-expr .ensures) (wrote-then (r .create-response-cel-expr .ensures) (p .put2 .ensures)))
 
 pub create-default-full-cel-expr-spec : {M : Type 1} → statement M
 create-default-full-cel-expr-spec =

@@ -11,12 +11,15 @@ slice-aggregate-put c = search needs
 put-requires : tie.Need-put-requires
 unfolding responseOnlyText
 put-requires c κs =
-    fits-first _ (c .before .before .before .before .before .pre .1)
+    let s = c .before .before .before .before .before in
+    fits-first _ (s .pre .1)
 
 create-response-cel-expr-requires : tie.Need-create-response-cel-expr-requires
 unfolding responseOnlyText
 create-response-cel-expr-requires c κs =
-    (c .before .before .before .before .before .before .before .before .before .pre .0, fits-first _ (fits-then (c .before .before .before .put .ensures) (c .before .before .before .before .before .before .before .before .before .pre .1)))
+    let s = c .before .before .before .before .before .before .before .before .before in
+    let o = c .before .before .before in
+    (s .pre .0, fits-first _ (fits-then (o .put .ensures) (s .pre .1)))
 
 slice-aggregate-put-2 : tie.Need-slice-aggregate-put-2
 slice-aggregate-put-2 c = search needs
@@ -24,7 +27,10 @@ slice-aggregate-put-2 c = search needs
 put-requires-2 : tie.Need-put-requires-2
 unfolding responseOnlyText
 put-requires-2 c κs =
-    fits-then (c .before .before .before .before .create-response-cel-expr .ensures) (fits-then (c .before .before .before .before .before .before .before .before .put .ensures) (c .before .before .before .before .before .before .before .before .before .before .before .before .before .before .pre .1))
+    let r = c .before .before .before .before in
+    let o = c .before .before .before .before .before .before .before .before in
+    let s = c .before .before .before .before .before .before .before .before .before .before .before .before .before .before in
+    fits-then (r .create-response-cel-expr .ensures) (fits-then (o .put .ensures) (s .pre .1))
 
 same-length : tie.Need-same-length
 same-length c = search needs
@@ -32,7 +38,10 @@ same-length c = search needs
 returns : tie.Need-returns
 unfolding responseOnlyText
 returns c =
-    wrote-then (c .before .before .before .before .before .before .before .before .before .before .before .put .ensures) (wrote-then (c .before .before .before .before .before .before .before .create-response-cel-expr .ensures) (c .before .before .put2 .ensures))
+    let o = c .before .before .before .before .before .before .before .before .before .before .before in
+    let r = c .before .before .before .before .before .before .before in
+    let p = c .before .before in
+    wrote-then (o .put .ensures) (wrote-then (r .create-response-cel-expr .ensures) (p .put2 .ensures))
 
 pub create-default-response-only-cel-expr-spec : {M : Type 1} → statement M
 create-default-response-only-cel-expr-spec =

@@ -20,13 +20,15 @@ slice-aggregate-put c = search needs
 put-requires : tie.Need-put-requires
 unfolding requestText
 put-requires c κs =
-    fits-first _ (c .before .before .before .before .before .before .before .pre .1)
+    let s = c .before .before .before .before .before .before .before in
+    fits-first _ (s .pre .1)
 
 list-requires : tie.Need-list-requires
 unfolding requestText
 list-requires c κs =
+    let o = c .before .before .before in
     let s = c .before .before .before .before .before .before .before .before .before .before .before in
-    (inside-part (numbers (s .args .policy)) (s .pre .0) 0 (s .args .policy .request) (omega arith), fits-first _ (fits-then (c .before .before .before .put .ensures) (s .pre .1)))
+    (inside-part (numbers (s .args .policy)) (s .pre .0) 0 (s .args .policy .request) (omega arith), fits-first _ (fits-then (o .put .ensures) (s .pre .1)))
 
 slice-aggregate-put-2 : tie.Need-slice-aggregate-put-2
 slice-aggregate-put-2 c = search needs
@@ -34,14 +36,20 @@ slice-aggregate-put-2 c = search needs
 put-requires-2 : tie.Need-put-requires-2
 unfolding requestText
 put-requires-2 c κs =
-    fits-first _ (fits-then (c .before .before .before .before .list .ensures) (fits-then (c .before .before .before .before .before .before .before .before .put .ensures) (c .before .before .before .before .before .before .before .before .before .before .before .before .before .before .before .before .pre .1)))
+    let l = c .before .before .before .before in
+    let o = c .before .before .before .before .before .before .before .before in
+    let s = c .before .before .before .before .before .before .before .before .before .before .before .before .before .before .before .before in
+    fits-first _ (fits-then (l .list .ensures) (fits-then (o .put .ensures) (s .pre .1)))
 
 list-requires-2 : tie.Need-list-requires-2
 unfolding requestText
 list-requires-2 c κs =
+    let p = c .before .before .before in
+    let l = c .before .before .before .before .before .before .before .before in
+    let o = c .before .before .before .before .before .before .before .before .before .before .before .before in
     let s = c .before .before .before .before .before .before .before .before .before .before .before .before .before .before .before .before .before .before .before .before in (
       inside-part (numbers (s .args .policy)) (s .pre .0) (s .args .policy .request) (s .args .policy .query) (omega arith),
-      fits-first _ (fits-then (c .before .before .before .put2 .ensures) (fits-then (c .before .before .before .before .before .before .before .before .list .ensures) (fits-then (c .before .before .before .before .before .before .before .before .before .before .before .before .put .ensures) (s .pre .1)))),
+      fits-first _ (fits-then (p .put2 .ensures) (fits-then (l .list .ensures) (fits-then (o .put .ensures) (s .pre .1)))),
     )
 
 slice-aggregate-put-3 : tie.Need-slice-aggregate-put-3
@@ -50,7 +58,12 @@ slice-aggregate-put-3 c = search needs
 put-requires-3 : tie.Need-put-requires-3
 unfolding requestText
 put-requires-3 c κs =
-    fits-then (c .before .before .before .before .list2 .ensures) (fits-then (c .before .before .before .before .before .before .before .before .put2 .ensures) (fits-then (c .before .before .before .before .before .before .before .before .before .before .before .before .before .list .ensures) (fits-then (c .before .before .before .before .before .before .before .before .before .before .before .before .before .before .before .before .before .put .ensures) (c .before .before .before .before .before .before .before .before .before .before .before .before .before .before .before .before .before .before .before .before .before .before .before .before .before .pre .1))))
+    let m = c .before .before .before .before in
+    let p = c .before .before .before .before .before .before .before .before in
+    let l = c .before .before .before .before .before .before .before .before .before .before .before .before .before in
+    let o = c .before .before .before .before .before .before .before .before .before .before .before .before .before .before .before .before .before in
+    let s = o .before .before .before .before .before .before .before .before in
+    fits-then (m .list2 .ensures) (fits-then (p .put2 .ensures) (fits-then (l .list .ensures) (fits-then (o .put .ensures) (s .pre .1))))
 
 same-length : tie.Need-same-length
 same-length c = search needs
@@ -62,7 +75,8 @@ returns c =
     let h = c .before .before .before .before .before .before .before .before .before .before .before .before .before .before .before .before in
     let b = c .before .before .before .before .before .before .before .before .before .before .before in
     let q = c .before .before .before .before .before .before .before in
-    wrote-then (o .put .ensures) (wrote-then (h .list .ensures) (wrote-then (b .put2 .ensures) (wrote-then (q .list2 .ensures) (c .before .before .put3 .ensures))))
+    let z = c .before .before in
+    wrote-then (o .put .ensures) (wrote-then (h .list .ensures) (wrote-then (b .put2 .ensures) (wrote-then (q .list2 .ensures) (z .put3 .ensures))))
 
 pub create-request-cel-expr-spec : {M : Type 1} → statement M
 create-request-cel-expr-spec =

@@ -3,7 +3,7 @@ use Rattle.pieces.specs.Pieces.{Fits}
 use Rattle.pieces.specs.Laws.{wrote-length, fits-first, fits-then}
 use Rattle.create_cel_expr.proofs.Lists.{Going, restOf, wrote-empty, room-list, room-next, room-last, going-next, going-last}
 use mathlib.Core.Path.{subst}
-use Prim.Native.Nat.{_+_, _-_, _≤_}
+use Prim.Native.Nat.{_-_, _≤_}
 use native.Mathlib.Nat.{add-zero}
 use lib.Dec.{lit≤}
 use Rattle.cel_policy.specs.Laws.Judging.{SpanInside}
@@ -25,28 +25,36 @@ returns c =
 
 first-requires : tie.Need-first-requires Inv-loop μ-loop
 first-requires c κs =
+    let i = c .before in
     let s = c .before .before .before .before .before in
     let a = s .args in (
-      subst (SpanInside (a .spans .now) (a .text .now)) (add-zero (a .begin)) (s .pre .0 0 (omega (arith, c .before .if1 .left))),
-      fits-first (restOf (a .text .now) (a .spans .now) (a .begin) (a .count) 1) (room-list (a .text .now) (a .spans .now) (a .begin) (a .count) (c .before .if1 .left) (s .pre .1)),
+      subst (SpanInside (a .spans .now) (a .text .now)) (add-zero (a .begin)) (s .pre .0 0 (omega (arith, i .if1 .left))),
+      fits-first _ (room-list (a .text .now) (a .spans .now) (a .begin) (a .count) (i .if1 .left) (s .pre .1)),
     )
 
 loop-holds : tie.Need-loop-holds Inv-loop μ-loop
 loop-holds c =
+    let f = c .before .before in
+    let i = c .before .before .before .before in
     let s = c .before .before .before .before .before .before .before .before in
     let a = s .args in
-    (lit≤ tt, fits-then (c .before .before .first .ensures) (room-list (a .text .now) (a .spans .now) (a .begin) (a .count) (c .before .before .before .before .if1 .left) (s .pre .1)), λ out past w. w)
+    (lit≤ tt, fits-then (f .first .ensures) (room-list (a .text .now) (a .spans .now) (a .begin) (a .count) (i .if1 .left) (s .pre .1)), λ out past w. w)
 
 add-next : tie.Need-add-next Inv-loop μ-loop
-add-next c = record { fits = omega (arith, c .before .before .before .before .before .before .before .before .before .before .before .pre .0 (c .before .before .loop .i) (c .before .loop-test .taken) .inTable) }
+add-next c =
+    let s = c .before .before .before .before .before .before .before .before .before .before .before in
+    let u = c .before .before in
+    let v = c .before in
+    record { fits = omega (arith, s .pre .0 (u .loop .i) (v .loop-test .taken) .inTable) }
 
 next-requires : tie.Need-next-requires Inv-loop μ-loop
 next-requires c κs =
+    let v = c .before in
     let s = c .before .before .before .before .before .before .before .before .before .before .before in
     let a = s .args in
     let l = c .before .before in (
-      s .pre .0 (l .loop .i) (c .before .loop-test .taken),
-      fits-first (restOf (a .text .now) (a .spans .now) (a .begin) (a .count) (l .loop .i + 1)) (room-next (a .text .now) (a .spans .now) (a .begin) (a .count) (c .before .loop-test .taken) (l .loop .inv .1)),
+      s .pre .0 (l .loop .i) (v .loop-test .taken),
+      fits-first _ (room-next (a .text .now) (a .spans .now) (a .begin) (a .count) (v .loop-test .taken) (l .loop .inv .1)),
     )
 
 add-i : tie.Need-add-i Inv-loop μ-loop
@@ -57,24 +65,36 @@ loop-less c = search needs
 
 loop-again : tie.Need-loop-again Inv-loop μ-loop
 loop-again c =
-    let a = c .before .before .before .before .before .before .before .before .before .before .before .before .before .before .args in
-    let l = c .before .before .before .before .before .loop in
-    let t = c .before .before .before .before .loop-test in (
+    let s = c .before .before .before .before .before .before .before .before .before .before .before .before .before .before in
+    let u = c .before .before .before .before .before in
+    let v = c .before .before .before .before in
+    let n = c .before .before in
+    let a = s .args in
+    let l = u .loop in
+    let t = v .loop-test in (
       omega (arith, l .inv .0),
-      fits-then (c .before .before .next .ensures) (room-next (a .text .now) (a .spans .now) (a .begin) (a .count) (t .taken) (l .inv .1)),
-      going-next (a .text .now) (a .spans .now) (a .begin) (a .count) (t .taken) (l .inv .2) (c .before .before .next .ensures),
+      fits-then (n .next .ensures) (room-next (a .text .now) (a .spans .now) (a .begin) (a .count) (t .taken) (l .inv .1)),
+      going-next (a .text .now) (a .spans .now) (a .begin) (a .count) (t .taken) (l .inv .2) (n .next .ensures),
     )
 
 last-requires : tie.Need-last-requires Inv-loop μ-loop
 last-requires c κs =
-    let a = c .before .before .before .before .before .before .before .before .before .before .before .args in
-    room-last (a .text .now) (a .spans .now) (a .begin) (a .count) (c .before .loop-test .left) (c .before .before .loop .inv .1)
+    let s = c .before .before .before .before .before .before .before .before .before .before .before in
+    let v = c .before in
+    let u = c .before .before in
+    let a = s .args in
+    room-last (a .text .now) (a .spans .now) (a .begin) (a .count) (v .loop-test .left) (u .loop .inv .1)
 
 returns-2 : tie.Need-returns-2 Inv-loop μ-loop
 returns-2 c =
-    let a = c .before .before .before .before .before .before .before .before .before .before .before .before .before .before .args in
+    let s = c .before .before .before .before .before .before .before .before .before .before .before .before .before .before in
+    let i = c .before .before .before .before .before .before .before .before .before .before in
+    let f = c .before .before .before .before .before .before .before .before in
+    let v = c .before .before .before .before in
+    let z = c .before .before in
+    let a = s .args in
     let l = c .before .before .before .before .before in
-    going-last (a .text .now) (a .spans .now) (a .begin) (a .count) (c .before .before .before .before .before .before .before .before .before .before .if1 .left) (c .before .before .before .before .before .before .before .before .first .ensures) (c .before .before .before .before .loop-test .left) (l .loop .inv .2) (c .before .before .last .ensures)
+    going-last (a .text .now) (a .spans .now) (a .begin) (a .count) (i .if1 .left) (f .first .ensures) (v .loop-test .left) (l .loop .inv .2) (z .last .ensures)
 
 same-length : tie.Need-same-length Inv-loop μ-loop
 same-length c = wrote-length (returns-2 c)

@@ -2,8 +2,6 @@
 use mathlib.Core.Path.{sym}
 use Rattle.pieces.specs.Laws.{wrote-as, fits-as}
 use Rattle.create_cel_expr.proofs.Sizes.{key-exclusions, key-inclusions}
-use borrow.Author.Tests.{eq-eqb, ne-eqb}
-use Rattle.cel_policy.specs.Policy.{exclusions}
 use borrow.Author.Needs.{needs}
 use Rattle.create_cel_expr.proofs.write.list_key.Statement.{statement}
 use Rattle.create_cel_expr.proofs.write.list_key.Tie as tie
@@ -12,25 +10,39 @@ slice-aggregate-put : tie.Need-slice-aggregate-put
 slice-aggregate-put c = search needs
 
 put-requires : tie.Need-put-requires
-put-requires c κs = fits-as (key-exclusions (c .before .before .before .before .args .kind) (c .before .before .if1 .taken)) (c .before .before .before .before .pre)
+put-requires c κs =
+    let s = c .before .before .before .before in
+    let i = c .before .before in
+    fits-as (key-exclusions (s .args .kind) (i .if1 .taken)) (s .pre)
 
 same-length : tie.Need-same-length
 same-length c = search needs
 
 returns : tie.Need-returns
-returns c = wrote-as (sym (key-exclusions (c .before .before .before .before .before .before .before .args .kind) (c .before .before .before .before .before .if1 .taken))) (c .before .before .put .ensures)
+returns c =
+    let s = c .before .before .before .before .before .before .before in
+    let i = c .before .before .before .before .before in
+    let o = c .before .before in
+    wrote-as (sym (key-exclusions (s .args .kind) (i .if1 .taken))) (o .put .ensures)
 
 slice-aggregate-put-2 : tie.Need-slice-aggregate-put-2
 slice-aggregate-put-2 c = search needs
 
 put-requires-2 : tie.Need-put-requires-2
-put-requires-2 c κs = fits-as (key-inclusions (c .before .before .before .before .args .kind) (c .before .before .if1 .left)) (c .before .before .before .before .pre)
+put-requires-2 c κs =
+    let s = c .before .before .before .before in
+    let i = c .before .before in
+    fits-as (key-inclusions (s .args .kind) (i .if1 .left)) (s .pre)
 
 same-length-2 : tie.Need-same-length-2
 same-length-2 c = search needs
 
 returns-2 : tie.Need-returns-2
-returns-2 c = wrote-as (sym (key-inclusions (c .before .before .before .before .before .before .before .args .kind) (c .before .before .before .before .before .if1 .left))) (c .before .before .put2 .ensures)
+returns-2 c =
+    let s = c .before .before .before .before .before .before .before in
+    let i = c .before .before .before .before .before in
+    let p = c .before .before in
+    wrote-as (sym (key-inclusions (s .args .kind) (i .if1 .left))) (p .put2 .ensures)
 
 pub list-key-spec : {M : Type 1} → statement M
 list-key-spec =

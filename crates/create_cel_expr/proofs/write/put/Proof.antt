@@ -1,6 +1,7 @@
 -- `write::put` meets its contract: the copy fills the front of what stands from the place on. Assumes nothing.
 use mathlib.Core.Path.{sym, ap, _∙_}
-use Prim.Native.Nat.{_-_}
+use mathlib.Core.List.{List}
+use Prim.Native.Nat.{ℕ, _-_}
 use lib.ListN.{length}
 use borrow.Rule.Slice.PartMut.{putMid}
 use Rattle.pieces.specs.Laws.{past-fits, part-over}
@@ -30,9 +31,12 @@ same-length c = search needs
 returns : tie.Need-returns
 returns c =
     let s = c .before .before .before .before .before .before in
+    let out : List ℕ = s .args .out .now in
+    let at : ℕ = s .args .at in
+    let piece : List ℕ = s .args .piece .now in
     record {
-      place = sym (past-fits (s .args .out .now) (s .args .at) (s .args .piece .now) (s .pre .room));
-      buffer = ap (putMid (s .args .at) (length (s .args .out .now) - s .args .at) (s .args .out .now)) (c .before .before .copy .ensures .1) ∙ part-over (s .args .out .now) (s .args .at) (s .args .piece .now) (s .pre .room);
+      place = sym (past-fits out at piece (s .pre .room));
+      buffer = ap (putMid at (length out - at) out) (c .before .before .copy .ensures .1) ∙ part-over out at piece (s .pre .room);
     }
 
 pub put-spec : {M : Type 1} → statement M

@@ -1,7 +1,6 @@
 -- `write::string` meets its contract: the piece is the string. Assumes nothing.
-use mathlib.Core.Path.{sym, subst}
+use mathlib.Core.Path.{sym}
 use Rattle.pieces.specs.Laws.{wrote-as, fits-as}
-use Rattle.pieces.specs.Pieces.{Wrote}
 use borrow.Author.Needs.{needs}
 use Rattle.create_cel_expr.proofs.write.string.Statement.{statement}
 use Rattle.create_cel_expr.proofs.write.string.Tie as tie
