@@ -6,7 +6,8 @@ ghost use mathlib.Core.List.{_++_};
 ghost use lib.ListN.{getD, take};
 ghost use lib.Dec.{eqb};
 ghost use Rattle.cel_text.specs.Byte.{bytes, stringByte};
-ghost use Rattle.cel_policy.specs.Policy.{numbers};
+ghost use Rattle.cel_text.specs.Answer.{maxText};
+ghost use Rattle.cel_policy.specs.Policy.{numbers, exclusions};
 ghost use Rattle.cel_policy.specs.Spans.{spansAt};
 ghost use Rattle.cel_policy.specs.Answers.{findPrint};
 ghost use Rattle.parser.specs.Found.{told};
@@ -19,6 +20,7 @@ use crate::words::put_part;
 use cel_policy::Policy;
 use page::say;
 use parser::Answer;
+use parser::MAX_TEXT;
 
 // The most bytes of a string that are shown.
 const WIDE: usize = 72;
@@ -147,7 +149,7 @@ fn put_request(out: &mut [u8], at: usize, policy: Policy, text: &[u8], spans: &[
 
 // The list of response headers of this kind.
 fn response_list(kind: u32) -> u32
-    ensures { λ r. ⌜ r ≡ cond (eqb kind 2) 3 2 ⌝ }
+    ensures { λ r. ⌜ r ≡ cond (eqb kind exclusions) 3 2 ⌝ }
     ensures { λ r. ⌜ r ≤ 3 ⌝ }
 {
     if kind == cel_policy::EXCLUSIONS {
@@ -189,11 +191,11 @@ fn put_printed(out: &mut [u8], at: usize, printed: &[u8], length: usize) -> usiz
 
 // The canonical text, or that there is none.
 fn put_canonical(out: &mut [u8], at: usize, policy: Policy, text: &[u8], spans: &[u32]) -> usize
-    ensures { λ r. ⌜ Wrote (now (out .entry)) (now (out .exit)) at r (canonicalText (findPrint stringByte (numbers policy) (now (spans .entry)) (now (text .entry)) 8192)) ⌝ }
+    ensures { λ r. ⌜ Wrote (now (out .entry)) (now (out .exit)) at r (canonicalText (findPrint stringByte (numbers policy) (now (spans .entry)) (now (text .entry)) maxText)) ⌝ }
 {
-    let mut printed = [0u8; 8192];
+    let mut printed = [0u8; MAX_TEXT];
     let print = create_cel_expr::print_policy(policy, text, spans, &mut printed);
-    if print.refusal != 0 {
+    if print.refusal != parser::ACCEPTED {
         return say(
             out,
             at,
