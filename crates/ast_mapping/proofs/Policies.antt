@@ -119,7 +119,7 @@ zeros =
       untouches = λ n ws w. refl;
       clears = λ n ws w. refl;
       begins = λ n ws w. (_, refl);
-      front = λ l n ws w h long. hold-front l n ws w long;
+      front = λ l n ws w h long. hold-front l n ws w;
       fills = fill;
     }
   where
@@ -148,8 +148,8 @@ lent =
     }
   where
     over-front : (l : Left) (n : ℕ) (ws w : Words) → length ws ≤ n → n ≤ length w → holdOver l n ws (take n w) ++ drop n w ≡ holdOver l n ws w
-    over-front untouched n ws w h long = hold-front untouched n ws w long
-    over-front cleared n ws w h long = hold-front cleared n ws w long
+    over-front untouched n ws w h long = hold-front untouched n ws w
+    over-front cleared n ws w h long = hold-front cleared n ws w
     over-front filled n ws w h long =
         let inside : length ws ≤ length (take n w) = omega (arith, length-take-le n w long) in
         append-assoc ws (drop (length ws) (take n w)) (drop n w)

@@ -8,7 +8,7 @@ use lib.Seq.{sets}
 use Rattle.cel_text.specs.Byte.{Text}
 use Rattle.cel_text.specs.Tree.{Kind, Key, unkeyed, Tree, Trees, container, nodes, depth, count}
 use Rattle.cel_text.specs.Reading.{Stack, inside, Frame, level, opened, State, before, value, quoted, begun, child, fresh, Fault, Outcome, refused, follow, refuse, go, run, limits, maxDepth, maxNodes}
-use Rattle.cel_text.specs.Table.{Words, rowsOf, rowsAll, kindNumber, keyFrom, keyTo, rowWords, nodeWords}
+use Rattle.cel_text.specs.Table.{Words, rowsOf, rowsAll, stringKind, kindNumber, keyFrom, keyTo, rowWords, nodeWords}
 use Rattle.cel_text.specs.Answer.{faultNumber, maxText}
 use Rattle.cel_text.specs.Laws.Run.{resume}
 use Rattle.parser.specs.Set.{stringSet}
@@ -58,14 +58,14 @@ pub record Headed (x : Text) (p kind from to o : ℕ) : Type 0 where
   pub opener : (kind ≡ 0 → ⊥) → o < length x
   pub fromIn : from ≤ length x
   pub toIn : to ≤ length x
-  pub numbered : (kind ≡ 0 → ⊥) → (kind ≡ 1 → ⊥) → kindNumber (kindOf kind) ≡ kind
+  pub numbered : (kind ≡ 0 → ⊥) → (kind ≡ stringKind → ⊥) → kindNumber (kindOf kind) ≡ kind
 
 -- an opener of this kind at place p, under the limits
 pub record Entered (kind p n left q : ℕ) : Type 0 where
   pub next : q ≡ suc p
   pub some : kind ≡ 0 → ⊥
   pub room : n < maxNodes
-  pub deeper : (kind ≡ 1 → ⊥) → 0 < left
+  pub deeper : (kind ≡ stringKind → ⊥) → 0 < left
   pub goes : (K : Stack) (from to : ℕ) → Around K n left → opens kind K from to p ≡ go (openState kind K from to p)
 
 pub record Barred (kind p n left r q : ℕ) : Type 0 where

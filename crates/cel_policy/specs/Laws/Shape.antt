@@ -4,13 +4,13 @@ use mathlib.Core.Logic.{_⊎_, inl, inr, ⊎-elim}
 use Prim.Native.Nat.{ℕ, _+_, _≤_}
 use native.Mathlib.Nat.{suc-ne-zero}
 use native.Mathlib.Omega.{arith}
-use mathlib.Core.Bool.{Bool, true, false, _&&_, _||_, false≢true}
+use mathlib.Core.Bool.{Bool, true, false, _||_}
 use mathlib.Core.List.{List, [], _∷_}
 use mathlib.Core.Option.{Option, none, some}
 use lib.ListN.{length}
 use lib.Dec.{eqb}
 use borrow.Author.Tests.{eqb-true, leb-true, le-leb}
-use Rattle.cel_text.specs.Laws.Class.{by-test}
+use Rattle.cel_text.specs.Laws.Class.{by-test, both-true}
 use Rattle.cel_policy.specs.Policy.{Policy, counted, skip, responseOnly, full, noList, inclusions, exclusions}
 use Rattle.cel_policy.specs.Mapping.{Request, Only, first, second, listKind, listed, certified, skipped}
 use Rattle.cel_policy.specs.Printed.{aKind, shaped, maxResponseOnly, maxFull}
@@ -42,10 +42,6 @@ shape-right (certifies (some r) l h) =
     rw (aKind-listKind l) (le-leb (length (r .requestHeaders) + length (r .queryParameters) + length (listed l)) maxFull h)
 
 -- and whatever has a right shape is one of these
-pub both-true : (a b : Bool) → a && b ≡ true → (a ≡ true) × (b ≡ true)
-both-true true b e = (refl, e)
-both-true false b e = absurd (false≢true e)
-
 either-true : (a b : Bool) → a || b ≡ true → (a ≡ true) ⊎ (b ≡ true)
 either-true true b e = inl refl
 either-true false b e = inr e
