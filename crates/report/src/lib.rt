@@ -11,8 +11,8 @@ use parser::NODE_WORDS;
 ghost use Rattle.pieces.specs.Pieces.{Wrote};
 ghost use Rattle.report.specs.Report.{reported};
 
-// Puts the report on a text at the start of `out`, as far as there is room, and answers its length. No report needs more than
-// 32,768 bytes.
+// Puts the report on a text at the start of `out`, and answers the place after it. Where there is less room than the report has
+// bytes, its end is cut off.
 pub fn report(text: &[u8], out: &mut [u8]) -> usize
     ensures { λ r. ⌜ Wrote (now (out .entry)) (now (out .exit)) 0 r (reported (now (text .entry))) ⌝ }
 {

@@ -127,7 +127,15 @@ fn put_mapping(out: &mut [u8], at: usize, answer: Answer, found: u32) -> usize
     let node = Node(answer.place as usize);
     match refusal {
         parser::UNEXPECTED_NODE_TYPE => put_wrong(out, at, node, found, b".\n", answer.kind, name),
-        parser::UNEXPECTED_NODE_NAME => put_wrong(out, at, node, found, b" with another name.\n", found, name),
+        parser::UNEXPECTED_NODE_NAME => put_wrong(
+            out,
+            at,
+            node,
+            found,
+            b" with another name.\n",
+            found,
+            name,
+        ),
         parser::MISSING_FUNCTION_PARAMETER => put_no_argument(out, at, name),
         parser::MISSING_OBJECT_PROPERTY => put_no_property(out, at, name),
         _ => put_choice(out, at, refusal),
