@@ -14,7 +14,7 @@ use Rattle.parser.specs.declared.Place.{Place}
 use Rattle.parser.specs.declared.value.Key.{Key as Found}
 use Rattle.parser.specs.Run.{endOf}
 use Rattle.parser.specs.Kinds.{kindOf}
-use Rattle.parser.specs.Steps.{RefusedBy, Headed, Entered, Valued, Quoted, Keyed, WholeChild, ChildRead, Listed}
+use Rattle.parser.specs.Steps.{RefusedBy, Headed, Entered, Valued, StringRead, Keyed, WholeChild, ChildRead, Listed}
 use Rattle.parser.proofs.Runs.{end-stop}
 use Rattle.parser.proofs.Machine.{over-begun, not-blank}
 use Rattle.parser.proofs.Values.{sized-from, whole-from, refused-from, at-string, at-container, value-later, value-list}
@@ -22,7 +22,7 @@ use Rattle.parser.proofs.Lists.{whole-child, refused-child, Due-child, 
 
 module _ {x : Text} {at kind from to o : ℕ} (h : Headed x at kind from to o) (n left : ℕ) where
   module _ {q : ℕ} (e : Entered kind o n left q) (kf kt u : ℕ) where
-    pub string-up : (w w′ : Words) → kind ≡ stringKind → (s : Step) → Quoted x w w′ q n kf kt u s → Valued x w w′ at n left kf kt u s
+    pub string-up : (w w′ : Words) → kind ≡ stringKind → (s : Step) → StringRead x w w′ q n kf kt u s → Valued x w w′ at n left kf kt u s
     string-up w w′ k (Next r) v = whole-from (at-string h n left e k) (value-later h n left e) (v o left (e .next))
     string-up w w′ k (Refused r p) v = refused-from (at-string h n left e k) (v o left)
 

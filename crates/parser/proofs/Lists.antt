@@ -20,7 +20,7 @@ use Rattle.parser.specs.declared.Read.{Read}
 use Rattle.parser.specs.declared.value.Key.{Key as Found}
 use Rattle.parser.specs.Run.{endOf, NamedAt}
 use Rattle.parser.specs.Kinds.{kindOf}
-use Rattle.parser.specs.Steps.{reads, goesOn, Around, RefusedBy, Sized, Whole, framed, Keyed, WholeChild, ChildRefused, WholeList}
+use Rattle.parser.specs.Steps.{reads, goesOn, Around, RefusedBy, Sized, WholeValue, framed, Keyed, WholeChild, ChildRefused, WholeList}
 use Rattle.parser.proofs.Runs.{end-within, byte-within}
 use Rattle.parser.proofs.Machine.{over-key, begun-closes, begun-child, after-closes, after-comma, after-other}
 use Rattle.parser.proofs.Rows.{rows-child}
@@ -84,7 +84,7 @@ around-key : {K : Stack} {c : Kind} {o from to n left : ℕ} {ts : Trees} {k : K
 around-key k′ a = record { below = a .below; sofar = a .sofar }
 
 module _ {x : Text} {c : Kind} {p : ℕ} {k : Found} (l : Keyed x c p k) (n left : ℕ) where
-  pub whole-child : {w w′ : Words} {u : ℕ} {r : Read} → Whole (λ K. before (value K)) x w w′ (k .due .0) n left (k .from .0) (k .to .0) u r
+  pub whole-child : {w w′ : Words} {u : ℕ} {r : Read} → WholeValue (λ K. before (value K)) x w w′ (k .due .0) n left (k .from .0) (k .to .0) u r
       → WholeChild c x w w′ p n left u r
   whole-child v =
       record {

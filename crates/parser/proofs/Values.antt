@@ -20,7 +20,7 @@ use Rattle.parser.specs.Set.{stringSet}
 use Rattle.parser.specs.declared.Read.{Read}
 use Rattle.parser.specs.Run.{endOf, NamedAt}
 use Rattle.parser.specs.Kinds.{kindOf, openerKind, opens, openState}
-use Rattle.parser.specs.Steps.{reads, goesOn, Around, RefusedBy, Headed, Entered, Barred, Sized, Whole, WholeList}
+use Rattle.parser.specs.Steps.{reads, goesOn, Around, RefusedBy, Headed, Entered, NotEntered, Sized, WholeValue, WholeList}
 use Rattle.parser.proofs.Runs.{end-within, byte-within}
 use Rattle.parser.proofs.Machine.{named-from, over-opener, over-string}
 use Rattle.parser.proofs.Rows.{rows-string, rows-container}
@@ -40,8 +40,8 @@ around-room : {K : Stack} {n left : ℕ} → Around K n left → (n ≡ maxNodes
 around-room {K = K} a h = ne-eqb (opened K) maxNodes (λ e. h (sym (a .sofar) ∙ e))
 
 module _ (kind p n left : ℕ) where
-  pub barred-none : kind ≡ 0 → Barred kind p n left (faultNumber syntax) p
-  barred-none e = record { fault = syntax; number = refl; refuses = λ K from to a. rw e; there = refl }
+  pub stopped-none : kind ≡ 0 → NotEntered kind p n left (faultNumber syntax) p
+  stopped-none e = record { fault = syntax; number = refl; refuses = λ K from to a. rw e; there = refl }
 
   opens-string : kind ≡ stringKind → (K : Stack) (from to : ℕ) → opens kind K from to p ≡ enterString stringSet limits K p
   opens-string e K from to = rw e
@@ -49,9 +49,9 @@ module _ (kind p n left : ℕ) where
   opens-container : (kind ≡ 0 → ⊥) → (kind ≡ stringKind → ⊥) → (K : Stack) (from to : ℕ) → opens kind K from to p ≡ enter stringSet limits (kindOf kind) K from to p
   opens-container h₀ h₁ K from to = rw (ne-eqb kind 0 h₀, ne-eqb kind stringKind h₁)
 
-  barred-string : kind ≡ stringKind → n ≡ maxNodes → Barred kind p n left (faultNumber tooMany) p
+  stopped-string : kind ≡ stringKind → n ≡ maxNodes → NotEntered kind p n left (faultNumber tooMany) p
   unfolding enterString
-  barred-string e full = record { fault = tooMany; number = refl; refuses = λ K from to a. opens-string e K from to ∙ rw (around-full a full); there = refl }
+  stopped-string e full = record { fault = tooMany; number = refl; refuses = λ K from to a. opens-string e K from to ∙ rw (around-full a full); there = refl }
 
   entered-string : kind ≡ stringKind → (n ≡ maxNodes → ⊥) → n ≤ maxNodes → Entered kind p n left (p + 1)
   unfolding enterString
@@ -65,13 +65,13 @@ module _ (kind p n left : ℕ) where
       }
 
   module _ (h₀ : kind ≡ 0 → ⊥) (h₁ : kind ≡ stringKind → ⊥) where
-    pub barred-deep : left ≡ 0 → Barred kind p n left (faultNumber tooDeep) p
+    pub stopped-deep : left ≡ 0 → NotEntered kind p n left (faultNumber tooDeep) p
     unfolding enter
-    barred-deep e = record { fault = tooDeep; number = refl; refuses = λ K from to a. opens-container h₀ h₁ K from to ∙ rw (around-deep a e); there = refl }
+    stopped-deep e = record { fault = tooDeep; number = refl; refuses = λ K from to a. opens-container h₀ h₁ K from to ∙ rw (around-deep a e); there = refl }
 
-    barred-many : (left ≡ 0 → ⊥) → n ≡ maxNodes → Barred kind p n left (faultNumber tooMany) p
+    stopped-many : (left ≡ 0 → ⊥) → n ≡ maxNodes → NotEntered kind p n left (faultNumber tooMany) p
     unfolding enter
-    barred-many l full =
+    stopped-many l full =
         record { fault = tooMany; number = refl; refuses = λ K from to a. opens-container h₀ h₁ K from to ∙ rw (around-shallow a l, around-full a full); there = refl }
 
     entered-container : (left ≡ 0 → ⊥) → (n ≡ maxNodes → ⊥) → n ≤ maxNodes → Entered kind p n left (p + 1)
@@ -87,9 +87,9 @@ module _ (kind p n left : ℕ) where
 
   -- a string, or a container that may open here
   module _ (h₀ : kind ≡ 0 → ⊥) (h₁ : (kind ≡ stringKind → ⊥) → left ≡ 0 → ⊥) where
-    pub barred-full : n ≡ maxNodes → Barred kind p n left (faultNumber tooMany) p
-    barred-full full =
-        cases (eqb kind stringKind) (λ t. barred-string (eqb-true kind stringKind t) full) (λ t. barred-many h₀ (eqb-false kind stringKind t) (h₁ (eqb-false kind stringKind t)) full)
+    pub stopped-full : n ≡ maxNodes → NotEntered kind p n left (faultNumber tooMany) p
+    stopped-full full =
+        cases (eqb kind stringKind) (λ t. stopped-string (eqb-true kind stringKind t) full) (λ t. stopped-many h₀ (eqb-false kind stringKind t) (h₁ (eqb-false kind stringKind t)) full)
 
     pub entered : (n ≡ maxNodes → ⊥) → n ≤ maxNodes → Entered kind p n left (p + 1)
     entered some few =
@@ -160,7 +160,7 @@ sized-from h s =
 
 pub whole-from : {st st′ : Stack → State} {x : Text} {w w′ : Words} {at p n left kf kt u : ℕ} {r : Read}
     → ((K : Stack) → Around K n left → reads (st K) x at ≡ reads (st′ K) x p) → at ≤ p
-    → Whole st′ x w w′ p n left kf kt u r → Whole st x w w′ at n left kf kt u r
+    → WholeValue st′ x w w′ p n left kf kt u r → WholeValue st x w w′ at n left kf kt u r
 whole-from gets h v = record { tree = v .tree; reading = λ K a. gets K a ∙ v .reading K a; rows = v .rows; sized = sized-from h (v .sized) }
 
 pub refused-from : {st st′ : Stack → State} {x : Text} {at p n left r q : ℕ} → ((K : Stack) → Around K n left → reads (st K) x at ≡ reads (st′ K) x p)
@@ -168,7 +168,7 @@ pub refused-from : {st st′ : Stack → State} {x : Text} {at p n left r q : �
 refused-from gets v = record { fault = v .fault; number = v .number; refuses = λ K a. gets K a ∙ v .refuses K a; within = v .within }
 
 module _ {x : Text} {at kind from to o : ℕ} (h : Headed x at kind from to o) (n left : ℕ) where
-  pub value-barred : {r q : ℕ} → Barred kind o n left r q → RefusedBy (λ K. before (value K)) x at n left r q
+  pub value-barred : {r q : ℕ} → NotEntered kind o n left r q → RefusedBy (λ K. before (value K)) x at n left r q
   value-barred b =
       record {
         fault = b .fault;
@@ -192,7 +192,7 @@ module _ {x : Text} {at kind from to o : ℕ} (h : Headed x at kind from to o) (
 
     -- a container whose row was begun before its list was read
     pub value-list : {w w₁ w₂ : Words} {left′ kf kt u : ℕ} {r : Read} → (kind ≡ stringKind → ⊥) → left ≡ suc left′ → w₁ ≡ sets w (rowWords * n) (kind ∷ from ∷ to ∷ kf ∷ kt ∷ u ∷ [])
-        → WholeList x w₁ w₂ q n (kindOf kind) left′ r → Whole (λ K. before (value K)) x w w₂ at n left kf kt u r
+        → WholeList x w₁ w₂ q n (kindOf kind) left′ r → WholeValue (λ K. before (value K)) x w w₂ at n left kf kt u r
     value-list {w = w} {w₁ = w₁} {left′ = left′} {kf = kf} {kt = kt} {u = u} {r = r} k hl hw v =
         let t : Tree = container (kindOf kind) o from to (r .end .0) (v .children) in
         let z : Sized t x q n (suc left′) r = v .sized o from to (r .end .0) in
@@ -225,7 +225,7 @@ module _ (x : Text) (o at to end n left : ℕ) (ht : to ≡ endOf stringSet x at
   pub string-whole : {w w₁ w₂ : Words} {kf kt u : ℕ} (r : Read) → r .end .0 ≡ suc end → r .next .0 ≡ suc n → r .depth ≡ 0
       → getD x end 0 ≡ quote → n < maxNodes → at ≡ suc o
       → w₁ ≡ sets w (rowWords * n) (1 ∷ at ∷ to ∷ kf ∷ kt ∷ u ∷ []) → w₂ ≡ sets w₁ (rowWords * n + 6) (0 ∷ r .next .0 ∷ [])
-      → Whole (λ K. quoted K o) x w w₂ at n left kf kt u r
+      → WholeValue (λ K. quoted K o) x w w₂ at n left kf kt u r
   string-whole {w = w} {kf = kf} {kt = kt} {u = u} r er en ed h room ho h₁ h₂ =
       let inside : end < length x = byte-within x end (λ z. omega (arith, h)) in
       let t : Tree = string o to (suc end) in

@@ -13,8 +13,8 @@ ghost use Rattle.cel_policy.specs.Answers.{findPrint};
 ghost use Rattle.parser.specs.Found.{told};
 ghost use Rattle.pieces.specs.Pieces.{Wrote};
 ghost use Rattle.page.specs.Page.{shown, said};
-ghost use Rattle.report.specs.Policy.{formText, stringText, stringsText, titleText, listText, requestText, listsText, sizeText};
-ghost use Rattle.report.specs.Policy.{canonicalText, policyText};
+ghost use Rattle.report.specs.Policy.{formText, stringText, stringsText, titleText, listLines, requestLines, listsLines, sizeText};
+ghost use Rattle.report.specs.Policy.{canonicalLines, policyText};
 use crate::words::put_message;
 use crate::words::put_part;
 use cel_policy::Policy;
@@ -128,7 +128,7 @@ fn put_list(
     count: usize,
 ) -> usize
     requires { ⌜ (list ≤ 3) × (first + count < 2 ^ 40) ⌝ }
-    ensures { λ r. ⌜ Wrote (now (out .entry)) (now (out .exit)) at r (listText (now (text .entry)) (now (spans .entry)) list first count) ⌝ }
+    ensures { λ r. ⌜ Wrote (now (out .entry)) (now (out .exit)) at r (listLines (now (text .entry)) (now (spans .entry)) list first count) ⌝ }
 {
     let end = put_title(out, at, list, count);
     put_strings(out, end, text, spans, first, count)
@@ -136,7 +136,7 @@ fn put_list(
 
 // The lists of the request, which only Full has.
 fn put_request(out: &mut [u8], at: usize, policy: Policy, text: &[u8], spans: &[u32]) -> usize
-    ensures { λ r. ⌜ Wrote (now (out .entry)) (now (out .exit)) at r (requestText (now (text .entry)) (now (spans .entry)) (numbers policy)) ⌝ }
+    ensures { λ r. ⌜ Wrote (now (out .entry)) (now (out .exit)) at r (requestLines (now (text .entry)) (now (spans .entry)) (numbers policy)) ⌝ }
 {
     if policy.form != cel_policy::FULL {
         return at;
@@ -160,7 +160,7 @@ fn response_list(kind: u32) -> u32
 
 // The lists, one after the other in the span table; Skip has none.
 fn put_lists(out: &mut [u8], at: usize, policy: Policy, text: &[u8], spans: &[u32]) -> usize
-    ensures { λ r. ⌜ Wrote (now (out .entry)) (now (out .exit)) at r (listsText (now (text .entry)) (now (spans .entry)) (numbers policy)) ⌝ }
+    ensures { λ r. ⌜ Wrote (now (out .entry)) (now (out .exit)) at r (listsLines (now (text .entry)) (now (spans .entry)) (numbers policy)) ⌝ }
 {
     if policy.form == cel_policy::SKIP {
         return at;
@@ -191,7 +191,7 @@ fn put_printed(out: &mut [u8], at: usize, printed: &[u8], length: usize) -> usiz
 
 // The canonical text, or that there is none.
 fn put_canonical(out: &mut [u8], at: usize, policy: Policy, text: &[u8], spans: &[u32]) -> usize
-    ensures { λ r. ⌜ Wrote (now (out .entry)) (now (out .exit)) at r (canonicalText (findPrint stringByte (numbers policy) (now (spans .entry)) (now (text .entry)) maxText)) ⌝ }
+    ensures { λ r. ⌜ Wrote (now (out .entry)) (now (out .exit)) at r (canonicalLines (findPrint stringByte (numbers policy) (now (spans .entry)) (now (text .entry)) maxText)) ⌝ }
 {
     let mut printed = [0u8; MAX_TEXT];
     let print = create_cel_expr::print_policy(policy, text, spans, &mut printed);

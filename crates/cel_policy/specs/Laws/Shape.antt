@@ -16,9 +16,9 @@ use Rattle.cel_policy.specs.Mapping.{Request, Only, first, second, listK
 use Rattle.cel_policy.specs.Printed.{aKind, shaped, maxResponseOnly, maxFull}
 
 -- how many strings a request part and a response list have, and how many they may have
-abbrev pub countOf : {A : Type 0} → Option (Request A) → Only (List A) → ℕ
-countOf none l = length (listed l)
-countOf (some r) l = length (r .requestHeaders) + length (r .queryParameters) + length (listed l)
+abbrev pub certifiedCount : {A : Type 0} → Option (Request A) → Only (List A) → ℕ
+certifiedCount none l = length (listed l)
+certifiedCount (some r) l = length (r .requestHeaders) + length (r .queryParameters) + length (listed l)
 
 abbrev pub maxOf : {A : Type 0} → Option (Request A) → ℕ
 maxOf none = maxResponseOnly
@@ -27,7 +27,7 @@ maxOf (some r) = maxFull
 -- Skip, or ResponseOnly or Full within their counts
 pub data Shape {A : Type 0} : Policy A → Type 0 where
   skips : Shape skipped
-  certifies : (r : Option (Request A)) (l : Only (List A)) → countOf r l ≤ maxOf r → Shape (certified r l)
+  certifies : (r : Option (Request A)) (l : Only (List A)) → certifiedCount r l ≤ maxOf r → Shape (certified r l)
 
 -- these have a right shape
 aKind-listKind : {A : Type 0} (l : Only (List A)) → aKind (listKind l) ≡ true
