@@ -1,3 +1,4 @@
+pub mod Room
 pub mod Every
 pub mod Answers
 pub mod Prints

@@ -4,6 +4,6 @@ use Rattle.ask.specs.declared.table.Word.{Word}
 use Rattle.ask.specs.declared.table.Word.the-variants.{Is, Wrong}
 
 -- within the bytes that it is read from
-abbrev pub Ends : (long : ℕ) → Word → Type 0
-Ends long (Is w end) = end ≤ long
-Ends long Wrong = Unit
+abbrev pub EndsWithin : (long : ℕ) → Word → Type 0
+EndsWithin long (Is w end) = end ≤ long
+EndsWithin long Wrong = Unit

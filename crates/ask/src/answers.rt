@@ -10,8 +10,16 @@ use crate::room;
 use crate::room::MOST_BYTES;
 use crate::room::MOST_WORDS;
 use crate::write;
+use ast_mapping::SPAN_WORDS;
 use lines::Count;
 use lines::Field;
+use parser::MAX_TEXT;
+use parser::NODE_WORDS;
+
+// What is lent where a line does not say: of each table some words more than count.
+const NODES_LENT: usize = NODE_WORDS + 5;
+
+const SPANS_LENT: usize = SPAN_WORDS + 5;
 
 // How much a request lends: the text's bytes, node words, span words and output bytes.
 pub(crate) struct Request {
@@ -46,15 +54,15 @@ fn requested(line: &[u8], text: &mut [u8]) -> Asked
     let Count::Number(n) = count else {
         return Asked::Nothing;
     };
-    let words = number_field(line, first, 2053, MOST_WORDS);
+    let words = number_field(line, first, NODES_LENT, MOST_WORDS);
     let Field::Is(nodes, second) = words else {
         return Asked::Nothing;
     };
-    let words = number_field(line, second, 517, MOST_WORDS);
+    let words = number_field(line, second, SPANS_LENT, MOST_WORDS);
     let Field::Is(spans, third) = words else {
         return Asked::Nothing;
     };
-    let output = number_field(line, third, 8192, MOST_BYTES);
+    let output = number_field(line, third, MAX_TEXT, MOST_BYTES);
     let Field::Is(room, last) = output else {
         return Asked::Nothing;
     };

@@ -1,6 +1,7 @@
 // The entries called on what a request lends, and their fields.
 ghost use Prim.Native.Nat.{_≤_};
 ghost use lib.ListN.{length};
+ghost use Rattle.ask.specs.Room.{mostBytes, mostWords};
 use crate::every;
 use crate::room;
 use crate::write::put;
@@ -146,7 +147,7 @@ fn bytes_in(lent: &[u8], answer: u32) -> usize
 
 fn tree_fields(text: &[u8], nodewords: usize, out: &mut [u8], at: usize) -> usize
     requires { ⌜ at ≤ length (now out) ⌝ }
-    requires { ⌜ nodewords ≤ 4096 ⌝ }
+    requires { ⌜ nodewords ≤ mostWords ⌝ }
     ensures { λ r. ⌜ r ≤ length (now (out .exit)) ⌝ }
 {
     let mut table = room::words();
@@ -161,8 +162,8 @@ fn policy_fields(
     at: usize,
 ) -> usize
     requires { ⌜ at ≤ length (now out) ⌝ }
-    requires { ⌜ nodewords ≤ 4096 ⌝ }
-    requires { ⌜ spanwords ≤ 4096 ⌝ }
+    requires { ⌜ nodewords ≤ mostWords ⌝ }
+    requires { ⌜ spanwords ≤ mostWords ⌝ }
     ensures { λ r. ⌜ r ≤ length (now (out .exit)) ⌝ }
 {
     let mut nodes = room::words();
@@ -178,7 +179,7 @@ fn policy_fields(
 
 fn canonical_fields(text: &[u8], room: usize, out: &mut [u8], at: usize) -> usize
     requires { ⌜ at ≤ length (now out) ⌝ }
-    requires { ⌜ room ≤ 16384 ⌝ }
+    requires { ⌜ room ≤ mostBytes ⌝ }
     ensures { λ r. ⌜ r ≤ length (now (out .exit)) ⌝ }
 {
     let mut lent = room::bytes();
@@ -193,9 +194,9 @@ pub(crate) fn put_all(
     room: usize,
     out: &mut [u8],
 ) -> usize
-    requires { ⌜ nodewords ≤ 4096 ⌝ }
-    requires { ⌜ spanwords ≤ 4096 ⌝ }
-    requires { ⌜ room ≤ 16384 ⌝ }
+    requires { ⌜ nodewords ≤ mostWords ⌝ }
+    requires { ⌜ spanwords ≤ mostWords ⌝ }
+    requires { ⌜ room ≤ mostBytes ⌝ }
     ensures { λ r. ⌜ r ≤ length (now (out .exit)) ⌝ }
 {
     let end = tree_fields(text, nodewords, out, 0);

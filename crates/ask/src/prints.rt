@@ -1,6 +1,7 @@
 // `prints`: a policy that anyone may have made, printed: the five numbers of `print_policy`, and the whole output in hex.
 ghost use Prim.Native.Nat.{_≤_};
 ghost use lib.ListN.{length};
+ghost use Rattle.ask.specs.Room.{mostBytes};
 ghost use Rattle.ask.specs.Prints.{Fitting};
 use crate::room;
 use crate::room::MOST_BYTES;
@@ -111,7 +112,7 @@ fn put_printed(text: &[u8], policy: Policy, spans: &[u32], lent: &mut [u8], out:
 
 // The same on an output of so many bytes.
 fn put_all(text: &[u8], policy: Policy, spans: &[u32], room: usize, out: &mut [u8]) -> usize
-    requires { ⌜ room ≤ 16384 ⌝ }
+    requires { ⌜ room ≤ mostBytes ⌝ }
     ensures { λ r. ⌜ r ≤ length (now (out .exit)) ⌝ }
 {
     let mut lent = room::bytes();

@@ -2,7 +2,7 @@
 ghost use Prim.Native.Nat.{_≤_};
 ghost use lib.ListN.{length};
 ghost use Rattle.lines.specs.Fields.{AtMost, Within};
-ghost use Rattle.ask.specs.Table.{Ends};
+ghost use Rattle.ask.specs.Table.{EndsWithin};
 use lines::Count;
 use lines::Field;
 
@@ -15,7 +15,7 @@ pub(crate) enum Word {
 // The word that begins at `from`.
 fn word_from(field: &[u8], from: usize) -> Word
     requires { ⌜ from ≤ length (now field) ⌝ }
-    ensures { λ r. ⌜ Ends (length (now (field .entry))) r ⌝ }
+    ensures { λ r. ⌜ EndsWithin (length (now (field .entry))) r ⌝ }
 {
     let end = bytes::scan::find(field, from, field.len(), b',');
     let count = lines::decimal(&field[from..end], u32::MAX);

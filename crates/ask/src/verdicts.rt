@@ -6,8 +6,12 @@ use crate::room;
 use crate::write::put;
 use crate::write::put_bad;
 use crate::write::put_number;
+use ast_mapping::SPAN_WORDS;
 use cel_policy::Policy;
 use lines::Count;
+use parser::ACCEPTED;
+use parser::MAX_TEXT;
+use parser::NODE_WORDS;
 
 // The word with this number in a line of words, which bars separate and which are counted from 0; nothing where there is none.
 fn put_word(out: &mut [u8], at: usize, line: &[u8], number: u32) -> usize
@@ -181,11 +185,11 @@ fn put_refused(out: &mut [u8], refusal: u32, name: u32, kind: u32) -> usize
 fn put_verdict(text: &[u8], out: &mut [u8]) -> usize
     ensures { λ r. ⌜ r ≤ length (now (out .exit)) ⌝ }
 {
-    let mut nodes = [0u32; 2048];
-    let mut spans = [0u32; 512];
+    let mut nodes = [0u32; NODE_WORDS];
+    let mut spans = [0u32; SPAN_WORDS];
     let read = ast_mapping::read_policy(text, &mut nodes, &mut spans);
     let answer = read.answer;
-    if answer.refusal != 0 {
+    if answer.refusal != ACCEPTED {
         return put_refused(out, answer.refusal, answer.name, answer.kind);
     }
     let policy = read.policy;
@@ -195,9 +199,9 @@ fn put_verdict(text: &[u8], out: &mut [u8]) -> usize
 fn put_accepted(out: &mut [u8], policy: Policy, text: &[u8], spans: &[u32]) -> usize
     ensures { λ r. ⌜ r ≤ length (now (out .exit)) ⌝ }
 {
-    let mut printed = [0u8; 8192];
+    let mut printed = [0u8; MAX_TEXT];
     let print = create_cel_expr::print_policy(policy, text, spans, &mut printed);
-    if print.refusal != 0 {
+    if print.refusal != ACCEPTED {
         return put_limit(out, print.refusal);
     }
     put_policy(out, policy, text, spans, &printed, print.length as usize)

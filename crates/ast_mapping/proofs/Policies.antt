@@ -15,6 +15,7 @@ use Rattle.cel_text.specs.Table.{Words, Left, untouched, cleared, filled, rows,
 use Rattle.cel_text.specs.Answer.{Found, tree, fault, findTree, answered, nodesAfter, treeAnswer, Answer as TreeAnswer, faultNumber}
 use Rattle.cel_text.specs.Laws.Table.{hold-front}
 use Rattle.cel_policy.specs.Policy.{Span, Policy, Counted, counted, stringCount, noPolicy, allStrings, numbers}
+use Rattle.cel_policy.specs.Printed.{maxResponseOnly}
 use Rattle.cel_policy.specs.Mapping.{Node, Mapped, good, bad, nodeOf, mapping}
 use Rattle.cel_policy.specs.Spans.{spanRows, spanWords, spanTable, spansLeft}
 use Rattle.cel_policy.specs.Answers.{unread, judged, mapTree, findPolicy, PolicyAnswer, policyAnswered, nodesHeld, spansHeld, policyAnswer}
@@ -54,7 +55,7 @@ module _ (w : ℕ) (x : Text) where
 
 -- ---- what the mapping can give
 
-shape-few : {p : Policy Span} → Shape p → length (allStrings p) ≤ 249
+shape-few : {p : Policy Span} → Shape p → length (allStrings p) ≤ maxResponseOnly
 shape-few skips = omega arith
 shape-few (certifies none l h) = h
 shape-few (certifies (some r) l h) = simp length-append (omega arith)
@@ -64,10 +65,10 @@ Refusing (good p) = Unit {0}
 Refusing (bad r) = OfMapping (r .refusal)
 
 module _ (root : Node Span) (small : size root ≤ maxNodes) where
-  pub mapped-few : (m : Mapped (Policy Span)) → m ≡ mapping root → length (stringsIn m) ≤ 249
+  pub mapped-few : (m : Mapped (Policy Span)) → m ≡ mapping root → length (stringsIn m) ≤ maxResponseOnly
   mapped-few m e = by m (subst (Meets _) (sym e) (meets-mapping root))
     where
-      by : (m : Mapped (Policy Span)) → Meets (λ (p : Policy Span). size root ≤ maxNodes → Shape p) m → length (stringsIn m) ≤ 249
+      by : (m : Mapped (Policy Span)) → Meets (λ (p : Policy Span). size root ≤ maxNodes → Shape p) m → length (stringsIn m) ≤ maxResponseOnly
       by (good p) h = shape-few (h small)
       by (bad r) h = omega arith
 
@@ -119,7 +120,7 @@ zeros =
       untouches = λ n ws w. refl;
       clears = λ n ws w. refl;
       begins = λ n ws w. (_, refl);
-      front = λ l n ws w h long. hold-front l n ws w long;
+      front = λ l n ws w h long. hold-front l n ws w;
       fills = fill;
     }
   where
@@ -148,8 +149,8 @@ lent =
     }
   where
     over-front : (l : Left) (n : ℕ) (ws w : Words) → length ws ≤ n → n ≤ length w → holdOver l n ws (take n w) ++ drop n w ≡ holdOver l n ws w
-    over-front untouched n ws w h long = hold-front untouched n ws w long
-    over-front cleared n ws w h long = hold-front cleared n ws w long
+    over-front untouched n ws w h long = hold-front untouched n ws w
+    over-front cleared n ws w h long = hold-front cleared n ws w
     over-front filled n ws w h long =
         let inside : length ws ≤ length (take n w) = omega (arith, length-take-le n w long) in
         append-assoc ws (drop (length ws) (take n w)) (drop n w)
@@ -178,7 +179,7 @@ module _ (holding : Left → ℕ → Words → Words → Words) (end : Counted �
       ∙ sym (way .clears spanWords [] s ∙ ap (λ (l : Words). replicate spanWords 0 ++ l) none ∙ append-nil (replicate spanWords 0))
   spare-kept filled h s long i = absurd h
 
-  settled-spans : (t : Tree) (q : ℕ) (m : Mapped (Policy Span)) → Refusing m → length (stringsIn m) ≤ 249 → (s : Words) → length s ≡ spanWords
+  settled-spans : (t : Tree) (q : ℕ) (m : Mapped (Policy Span)) → Refusing m → length (stringsIn m) ≤ maxResponseOnly → (s : Words) → length s ≡ spanWords
       → clearedFrom (sets s 0 (spanRows (stringsIn m))) (spareFrom (spansLeft (settledAnswer (answered (tree t q)) m .refusal)) (end (countsIn m)))
       ≡ spansHeld holding (judged t m) s
   unfolding spanTable
@@ -194,7 +195,7 @@ module _ (holding : Left → ℕ → Words → Words → Words) (end : Counted �
   settled-answer t q (good p) = refl
   settled-answer t q (bad r) = refl
 
-  spans-front : (t : Tree) (m : Mapped (Policy Span)) → length (stringsIn m) ≤ 249 → (s : Words) → spanWords ≤ length s
+  spans-front : (t : Tree) (m : Mapped (Policy Span)) → length (stringsIn m) ≤ maxResponseOnly → (s : Words) → spanWords ≤ length s
       → spansHeld holding (judged t m) (take spanWords s) ++ drop spanWords s ≡ spansHeld holding (judged t m) s
   unfolding spanTable
   spans-front t (good p) few s long = way .front filled spanWords (spanTable p) s (omega (arith, length-spanRows (allStrings p))) long
@@ -242,7 +243,7 @@ module _ (holding : Left → ℕ → Words → Words → Words) (end : Counted �
           }
 
       settled-reads : (t : Tree) (q : ℕ) → told a ≡ answered (tree t q) → nodes′ ≡ nodesAfter holding (tree t q) nodes
-          → (m : Mapped (Policy Span)) → m ≡ mapping (nodeOf x t 0) → Refusing m → length (stringsIn m) ≤ 249
+          → (m : Mapped (Policy Span)) → m ≡ mapping (nodeOf x t 0) → Refusing m → length (stringsIn m) ≤ maxResponseOnly
           → (r : Told-answer) (s′ : Words) → Settled m a front s′ r
           → Reads (tree t q) nodes′ (clearedFrom s′ (spareFrom (spansLeft (r .answer .refusal)) (end (numbers (r .policy)))) ++ drop spanWords spans) r
       settled-reads t q e k m is h few r s′ s =

@@ -6,7 +6,7 @@ use native.Mathlib.Omega.{arith}
 use mathlib.Core.Bool.{false}
 use lib.ListN.{length}
 use lib.Seq.{slice}
-use lib.Dec.{eqb, lit<}
+use lib.Dec.{eqb}
 use borrow.Author.Tests.{lt-ltb, le-ltb}
 use Rattle.cel_text.specs.Byte.{Text}
 use Rattle.cel_text.specs.Tree.{Kind, array, object, function}
@@ -15,15 +15,11 @@ use Rattle.cel_text.specs.Table.{Words, Row, rowWords, stringKind, kindNumber, 
 use Rattle.cel_text.specs.Laws.Table.{row-inside}
 use Rattle.cel_policy.specs.Policy.{Span}
 use Rattle.cel_policy.specs.Mapping.{Node, leaf, branch, Nodes, childless, _▹_∶_}
-use Rattle.cel_policy.specs.Laws.Counts.{size, sizes}
+use Rattle.cel_policy.specs.Laws.Counts.{size, sizes, size-positive}
 use Rattle.parser.specs.Kinds.{kindOf}
 use Rattle.parser.specs.Rows.{rowTold}
 use Rattle.parser.specs.declared.row.Row.{Row as Told-row}
 use Rattle.ast_mapping.specs.View.{nodeFrom, nodesFrom, nodeAt, number, children, Part, Stands, StandAll, Held}
-
-size-positive : (m : Node Span) → 0 < size m
-size-positive (leaf n a) = lit< tt
-size-positive (branch n c name ns) = omega arith
 
 pub size-children : (m : Node Span) → size m ≡ suc (sizes (children m))
 size-children (leaf n a) = refl

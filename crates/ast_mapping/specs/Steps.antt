@@ -9,6 +9,7 @@ use Rattle.cel_text.specs.Byte.{Text}
 use Rattle.cel_text.specs.Tree.{Kind, array, object, function}
 use Rattle.cel_text.specs.Reading.{maxNodes}
 use Rattle.cel_text.specs.Table.{Words, kindNumber}
+use Rattle.cel_policy.specs.Names.{default-certification, certified-request-headers, certified-query-parameters, certified-response-headers, response-header-exclusions}
 use Rattle.cel_policy.specs.Policy.{Span, Policy, responseOnly, full, inclusions, exclusions}
 use Rattle.cel_policy.specs.Mapping.{Refusal, Mapped, good, bad, Request, Only, first, second, typed, lookup, stringArray, listAt, skipped}
 use Rattle.ast_mapping.specs.View.{nodeAt, children, typedAt, stringsOf, Held, Tabled}
@@ -47,11 +48,14 @@ pub record Looked (w : Words) (x : Text) (n name : ℕ) (r : Found) : Type 0 whe
 
 -- ---- refusals
 
--- the kind that a name expects: 1 a function, the lists 9, 10, 13 and 14 an array, all others an object
+-- the kind that a name expects: the root a function, the four lists an array, all others an object
 abbrev pub expectedKind : ℕ → Kind
 expectedKind name =
-    cond (eqb name 1) function
-    (cond (leb 9 name) (cond (leb name 10) array (cond (leb 13 name) (cond (leb name 14) array object) object)) object)
+    cond (eqb name default-certification) function
+    (cond (leb certified-request-headers name)
+    (cond (leb name certified-query-parameters) array
+    (cond (leb certified-response-headers name) (cond (leb name response-header-exclusions) array object) object))
+    object)
 
 -- the struct of a refusal, in document 01's numbers
 abbrev pub refusalTold : Told → Refusal

@@ -9,7 +9,6 @@ mod span;
 use cel_policy::Policy;
 use parser::ACCEPTED;
 use parser::Answer;
-use parser::TABLE_TOO_SHORT;
 ghost use mathlib.Core.Path.{_≡_};
 ghost use lib.ListN.{length};
 ghost use Rattle.cel_policy.specs.Policy.{noPolicy};
@@ -83,14 +82,7 @@ fn map_tree(text: &[u8], tree: Answer, nodes: &[u32], spans: &mut [u32]) -> Poli
 fn too_short() -> PolicyAnswer
     ensures { λ r. ⌜ policyTold r ≡ policyAnswered (unread 1 0) ⌝ }
 {
-    without_policy(Answer {
-        refusal: TABLE_TOO_SHORT,
-        name: 0,
-        kind: 0,
-        place: 0,
-        nodes: 0,
-        depth: 0,
-    })
+    without_policy(parser::too_short())
 }
 
 // An answer of reading a tree that stands for itself.

@@ -1,5 +1,6 @@
 -- What is true of the definitions. A reader who believes the checker need not read on.
 pub mod Class
+pub mod Part
 pub mod Admit
 pub mod Run
 pub mod Complete

@@ -5,14 +5,14 @@ use native.Mathlib.Nat.{zero-add}
 use native.Mathlib.Omega.{arith}
 use mathlib.Core.List.{_++_}
 use lib.ListN.{length, drop}
-use borrow.Author.Tests.{lt-ltb, le-ltb, eq-eqb, ne-eqb}
+use borrow.Author.Tests.{eq-eqb, ne-eqb}
 use Rattle.cel_text.specs.Byte.{Text, bytes}
 use Rattle.cel_text.specs.Answer.{maxText}
 use Rattle.cel_policy.specs.Policy.{Policy, skip, responseOnly, exclusions}
 use Rattle.cel_policy.specs.Printed.{listLength, listKey, skipText, responseOnlyText, fullText, printed, printedLength}
 use Rattle.cel_policy.specs.Answers.{Printing, unprinted, sized, PrintAnswer, printAnswered, output}
 use Rattle.cel_policy.specs.Laws.Lengths.{length-printed}
-use Rattle.cel_policy.specs.Laws.Entries.{sized-fits}
+use Rattle.cel_policy.specs.Laws.Entries.{sized-fits, sized-long, sized-short}
 use Rattle.pieces.specs.Pieces.{Wrote, Fits}
 use Rattle.pieces.specs.Laws.{wrote-whole}
 
@@ -54,14 +54,6 @@ key-inclusions kind n = rw (ne-eqb kind exclusions n)
 
 -- ---- what is printed
 
-sized-23 : (t : Text) (room : ℕ) → maxText < length t → sized t room ≡ unprinted 23 0
-unfolding sized
-sized-23 t room h = rw (lt-ltb maxText (length t) h)
-
-sized-24 : (t : Text) (room : ℕ) → length t ≤ maxText → room < length t → sized t room ≡ unprinted 24 0
-unfolding sized
-sized-24 t room h r = rw (le-ltb maxText (length t) h, lt-ltb room (length t) r)
-
 -- an answer and an output after it are those of what was found
 abbrev pub Gave : PrintAnswer → (out out′ : Text) → Printing → Type 0
 Gave a out out′ w = (a ≡ printAnswered w) × (out′ ≡ output w out)
@@ -71,10 +63,10 @@ module _ (p : Policy Text) (out : Text) {n : ℕ} (measured : n ≡ printedLengt
   long = length-printed p
 
   pub gave-23 : {a : PrintAnswer} → maxText < n → a ≡ printAnswered (unprinted 23 0) → Gave a out out (sized (printed p) (length out))
-  gave-23 h e = rw (sized-23 (printed p) (length out) (omega (arith, measured, long))) (e, refl)
+  gave-23 h e = rw (sized-long (printed p) (length out) (omega (arith, measured, long))) (e, refl)
 
   pub gave-24 : {a : PrintAnswer} → n ≤ maxText → length out < n → a ≡ printAnswered (unprinted 24 0) → Gave a out out (sized (printed p) (length out))
-  gave-24 h r e = rw (sized-24 (printed p) (length out) (omega (arith, measured, long)) (omega (arith, measured, long))) (e, refl)
+  gave-24 h r e = rw (sized-short (printed p) (length out) (omega (arith, measured, long)) (omega (arith, measured, long))) (e, refl)
 
   pub measured-fits : n ≤ length out → Fits out 0 (printed p)
   measured-fits r = record { room = omega (arith, measured, long) }

@@ -1,7 +1,9 @@
 // The bytes of a text, from a file or from standard input.
-ghost use Prim.Native.Nat.{_≤_};
+ghost use Prim.Native.Nat.{suc, _≤_};
 ghost use lib.ListN.{length};
 ghost use mathlib.Core.Path.{_≡_};
+ghost use Rattle.cel_text.specs.Answer.{maxText};
+use parser::MAX_TEXT;
 
 // How many bytes are held, and whether a read failed.
 pub(crate) struct Held {
@@ -11,10 +13,12 @@ pub(crate) struct Held {
 
 // Room for the longest text and one byte more, which tells that a text is longer. The `ensures` gives the length, which lending
 // a part needs.
-pub(crate) fn text_room() -> [u8; 8193]
-    ensures { λ r. ⌜ 8193 ≡ length r ⌝ }
+const ROOM: usize = MAX_TEXT + 1;
+
+pub(crate) fn text_room() -> [u8; ROOM]
+    ensures { λ r. ⌜ suc maxText ≡ length r ⌝ }
 {
-    [0; 8193]
+    [0; ROOM]
 }
 
 // One read after the bytes held; at the end of the input no more are held than before.

@@ -4,21 +4,16 @@ use Prim.Native.Nat.{ℕ, zero, suc, _+_, _-_, _*_, _/_, _%_, _^_, _≤_, _<_}
 use native.Mathlib.Nat.{pow-suc, pow-le-pow-right, div-lt-iff-lt-mul, le-div-iff-mul-le, le-of-suc-le-suc, lt-of-not-le}
 use native.Mathlib.Numerals.{add-one}
 use native.Mathlib.Omega.{arith}
-use mathlib.Core.Bool.{Bool, true, false}
 use mathlib.Core.List.{List, [], _∷_, _++_, append-assoc, append-nil}
 use lib.ListN.{length, getD, take, drop, length-append}
 use lib.Seq.{take-suc, take-length}
 use lib.Dec.{ltb}
 use borrow.Author.Tests.{lt-ltb, le-ltb, le-leb, lt-leb, ltb-true, ltb-false}
+use borrow.Table.Steps.{cases}
 use Rattle.io.specs.Digits.{glyph, digits, Fewest}
 use Rattle.lines.specs.declared.field.Count.the-variants.{Number}
 use Rattle.lines.specs.Fields.{hexValue, hexBytes, readFrom, readDecimal}
 use Rattle.lines.specs.Texts.{numeralIn, numeral, afterCommas, numerals, pair, pairs}
-
--- both values of a test, each with its equation
-by-test : {P : Type 0} (t : Bool) → (t ≡ true → P) → (t ≡ false → P) → P
-by-test true f g = f refl
-by-test false f g = g refl
 
 -- ---- numbers
 
@@ -53,7 +48,7 @@ digits-numeralIn : (most k n : ℕ) → n < most → Fewest 10 1 n k → digits 
 digits-numeralIn zero k n h f = absurd (omega arith)
 digits-numeralIn (suc most) zero n h f = absurd (omega (arith, f .0))
 digits-numeralIn (suc most) (suc k) n h f =
-    by-test (ltb n 10)
+    cases (ltb n 10)
     (λ t. let l : n < 10 = ltb-true n 10 t in
     let z : k ≡ 0 = one-digit k n f l in
     let m : n % 10 ≡ n = omega arith in
@@ -73,7 +68,7 @@ length-numeralIn zero k n h = omega arith
 length-numeralIn (suc most) zero n h = rw (lt-ltb n 10 h) (omega arith)
 length-numeralIn (suc most) (suc k) n h =
     let i : n / 10 < 10 ^ suc k = div-lt-iff-lt-mul {k = 10} (omega arith) .1 (rw (pow-suc 10 (suc k)) at h) in
-    by-test (ltb n 10) (λ t. rw t (omega arith)) (λ t. rw t (simp length-append (omega (arith, length-numeralIn most k (n / 10) i))))
+    cases (ltb n 10) (λ t. rw t (omega arith)) (λ t. rw t (simp length-append (omega (arith, length-numeralIn most k (n / 10) i))))
 
 pub numeral-length : (n k : ℕ) → n < 10 ^ suc k → length (numeral n) ≤ suc k
 unfolding numeral
@@ -94,7 +89,7 @@ digits-append (x ∷ s) t a b = (a .0, a .1, digits-append s t (a .2) b)
 all-digits : (most n : ℕ) → AllDigits (numeralIn most n)
 all-digits zero n = tt
 all-digits (suc most) n =
-    by-test (ltb n 10)
+    cases (ltb n 10)
     (λ t. let l : n < 10 = ltb-true n 10 t in rw t (omega arith, omega arith, tt))
     (λ t. rw t (digits-append (numeralIn most (n / 10)) ((48 + n % 10) ∷ []) (all-digits most (n / 10)) (omega arith, omega arith, tt)))
 
@@ -111,7 +106,7 @@ read-digit most m d rest h l =
 read-numeralIn : (fuel most n : ℕ) (rest : List ℕ) → n < fuel → n ≤ most → readFrom most 0 (numeralIn fuel n ++ rest) ≡ readFrom most n rest
 read-numeralIn zero most n rest h l = absurd (omega arith)
 read-numeralIn (suc fuel) most n rest h l =
-    by-test (ltb n 10)
+    cases (ltb n 10)
     (λ t. let e : 10 * 0 + n ≡ n = omega arith in rw t (read-digit most 0 n rest (ltb-true n 10 t) (omega arith) ∙ ap (λ (m : ℕ). readFrom most m rest) e))
     (λ t. let o : 10 ≤ n = ltb-false n 10 t in
     let e : 10 * (n / 10) + n % 10 ≡ n = omega arith in
@@ -124,7 +119,7 @@ read-some most [] h = absurd (h refl)
 read-some most (b ∷ bs) h = refl
 
 some-digits : (most n : ℕ) → length (numeralIn (suc most) n) ≡ 0 → ⊥
-some-digits most n = by-test (ltb n 10) (λ t. rw t (λ e. omega (arith, e))) (λ t. rw t (simp length-append (λ e. omega (arith, e))))
+some-digits most n = cases (ltb n 10) (λ t. rw t (λ e. omega (arith, e))) (λ t. rw t (simp length-append (λ e. omega (arith, e))))
 
 pub numeral-read : (most n : ℕ) → n ≤ most → readDecimal most (numeral n) ≡ Number n
 unfolding numeral
@@ -175,7 +170,7 @@ digits-pair b k s f =
 -- bytes are read back
 glyph-value : (d : ℕ) → d < 16 → hexValue (glyph d) ≡ d
 glyph-value d h =
-    by-test (ltb d 10)
+    cases (ltb d 10)
     (λ t. let l : d < 10 = ltb-true d 10 t in
     let e : 48 + d - 48 ≡ d = omega arith in
     rw (t, le-ltb (48 + d) 48 (omega arith), le-leb (48 + d) 57 (omega arith), e))

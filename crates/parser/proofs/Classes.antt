@@ -8,6 +8,7 @@ use mathlib.Core.Logic.{⊎-elim}
 use lib.Dec.{eqb, leb}
 use lib.Bits.{bitOr}
 use Rattle.cel_text.specs.Byte.{blank, alphanumeric, identByte, stringByte}
+use Rattle.cel_text.specs.Laws.Class.{both-true}
 use Rattle.parser.specs.Set.{stringSet}
 use Rattle.parser.specs.Run.{letter, digit}
 
@@ -43,14 +44,10 @@ abbrev all : (ℕ → Bool) → ℕ → Bool
 all f zero = true
 all f (suc n) = f n && all f n
 
-both : (a b : Bool) → a && b ≡ true → (a ≡ true) × (b ≡ true)
-both true b h = (refl, h)
-both false b h = (h, cc)
-
 all-at : (f : ℕ → Bool) (n : ℕ) → all f n ≡ true → (b : ℕ) → b < n → f b ≡ true
 all-at f zero h b l = absurd (not-suc-le-zero l)
 all-at f (suc n) h b l =
-    let w = both (f n) (all f n) h in
+    let w = both-true (f n) (all f n) h in
     ⊎-elim (λ e. subst (λ (k : ℕ). f k ≡ true) (sym e) (w .0)) (λ m. all-at f n (w .1) b m) (eq-or-lt-of-le (le-of-suc-le-suc l))
 
 abbrev alike : Bool → Bool → Bool

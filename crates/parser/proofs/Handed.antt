@@ -6,7 +6,7 @@ use lib.Seq.{sets}
 use Rattle.cel_text.specs.Byte.{Text, blank}
 use Rattle.cel_text.specs.Tree.{Kind}
 use Rattle.cel_text.specs.Reading.{begun, fresh}
-use Rattle.cel_text.specs.Table.{Words, rowWords}
+use Rattle.cel_text.specs.Table.{Words, stringKind, rowWords}
 use Rattle.parser.specs.declared.Read.{Read}
 use Rattle.parser.specs.declared.Step.{Step}
 use Rattle.parser.specs.declared.Step.the-variants.{Next, Refused}
@@ -14,7 +14,7 @@ use Rattle.parser.specs.declared.Place.{Place}
 use Rattle.parser.specs.declared.value.Key.{Key as Found}
 use Rattle.parser.specs.Run.{endOf}
 use Rattle.parser.specs.Kinds.{kindOf}
-use Rattle.parser.specs.Steps.{RefusedBy, Headed, Entered, Valued, Quoted, Keyed, WholeChild, ChildRead, Listed}
+use Rattle.parser.specs.Steps.{RefusedBy, Headed, Entered, Valued, StringRead, Keyed, WholeChild, ChildRead, Listed}
 use Rattle.parser.proofs.Runs.{end-stop}
 use Rattle.parser.proofs.Machine.{over-begun, not-blank}
 use Rattle.parser.proofs.Values.{sized-from, whole-from, refused-from, at-string, at-container, value-later, value-list}
@@ -22,11 +22,11 @@ use Rattle.parser.proofs.Lists.{whole-child, refused-child, Due-child, 
 
 module _ {x : Text} {at kind from to o : ℕ} (h : Headed x at kind from to o) (n left : ℕ) where
   module _ {q : ℕ} (e : Entered kind o n left q) (kf kt u : ℕ) where
-    pub string-up : (w w′ : Words) → kind ≡ 1 → (s : Step) → Quoted x w w′ q n kf kt u s → Valued x w w′ at n left kf kt u s
+    pub string-up : (w w′ : Words) → kind ≡ stringKind → (s : Step) → StringRead x w w′ q n kf kt u s → Valued x w w′ at n left kf kt u s
     string-up w w′ k (Next r) v = whole-from (at-string h n left e k) (value-later h n left e) (v o left (e .next))
     string-up w w′ k (Refused r p) v = refused-from (at-string h n left e k) (v o left)
 
-    pub list-up : (w w₁ w₂ : Words) (left′ : ℕ) → (kind ≡ 1 → ⊥) → left ≡ suc left′ → w₁ ≡ sets w (rowWords * n) (kind ∷ from ∷ to ∷ kf ∷ kt ∷ u ∷ [])
+    pub list-up : (w w₁ w₂ : Words) (left′ : ℕ) → (kind ≡ stringKind → ⊥) → left ≡ suc left′ → w₁ ≡ sets w (rowWords * n) (kind ∷ from ∷ to ∷ kf ∷ kt ∷ u ∷ [])
         → (s : Step) → Listed x w₁ w₂ q n kind left′ s → Valued x w w₂ at n left kf kt u s
     list-up w w₁ w₂ left′ k hl hw (Next r) v = value-list h n left e k hl hw v
     list-up w w₁ w₂ left′ k hl hw (Refused r p) v =

@@ -8,18 +8,20 @@ use lib.ListN.{length, drop, getD}
 use lib.Seq.{sets, length-sets}
 use lib.Dec.{eqb}
 use borrow.Author.Tests.{ne-eqb}
+use borrow.Table.Steps.{cases}
 use Rattle.cel_text.specs.Byte.{Text, blank, colon, comma}
 use Rattle.cel_text.specs.Tree.{Kind, array, object, function, closer, Key, key, unkeyed, container, Trees, ∅, _▸_∶_, nodesAll, depthAll, count}
 use Rattle.cel_text.specs.Reading.{Stack, inside, Frame, value, entry, State, before, begun, after, Step, go, refuse, syntax, child, fresh, past, limits, maxNodes, withKey}
-use Rattle.cel_text.specs.Table.{Words, rowsAll, rowWords}
+use Rattle.cel_text.specs.Table.{Words, kindNumber, rowsAll, rowWords}
+use Rattle.cel_text.specs.Answer.{faultNumber}
 use Rattle.cel_text.specs.Laws.Run.{whole-resumes}
 use Rattle.parser.specs.Set.{stringSet}
 use Rattle.parser.specs.declared.Read.{Read}
 use Rattle.parser.specs.declared.value.Key.{Key as Found}
 use Rattle.parser.specs.Run.{endOf, NamedAt}
 use Rattle.parser.specs.Kinds.{kindOf}
-use Rattle.parser.specs.Steps.{reads, goesOn, Around, RefusedBy, Sized, Whole, framed, Keyed, WholeChild, ChildRefused, WholeList}
-use Rattle.parser.proofs.Runs.{decide, end-within, byte-within}
+use Rattle.parser.specs.Steps.{reads, goesOn, Around, RefusedBy, Sized, WholeValue, framed, Keyed, WholeChild, ChildRefused, WholeList}
+use Rattle.parser.proofs.Runs.{end-within, byte-within}
 use Rattle.parser.proofs.Machine.{over-key, begun-closes, begun-child, after-closes, after-comma, after-other}
 use Rattle.parser.proofs.Rows.{rows-child}
 use Rattle.parser.proofs.Values.{Bounds, name-bounds, sized-from}
@@ -52,7 +54,7 @@ module _ {x : Text} {p kf kt e : ℕ} (named : NamedAt x p kf kt e) (hp : p ≤ 
         toIn = omega (arith, ht, b .toIn);
       }
 
-  pub no-colon : (n left : ℕ) → (getD x e 0 ≡ colon → ⊥) → ChildRefused object x p n left 4 e
+  pub no-colon : (n left : ℕ) → (getD x e 0 ≡ colon → ⊥) → ChildRefused object x p n left (faultNumber syntax) e
   no-colon n left h =
       record {
         fault = syntax;
@@ -63,13 +65,13 @@ module _ {x : Text} {p kf kt e : ℕ} (named : NamedAt x p kf kt e) (hp : p ≤ 
       }
 
 -- a child that is no entry has none
-pub key-none : (x : Text) (p kind : ℕ) (k : Found) → p ≤ length x → (kind ≡ 3 → ⊥) → k .from .0 ≡ 0 → k .to .0 ≡ 0 → k .due .0 ≡ p → Keyed x (kindOf kind) p k
+pub key-none : (x : Text) (p kind : ℕ) (k : Found) → p ≤ length x → (kind ≡ kindNumber object → ⊥) → k .from .0 ≡ 0 → k .to .0 ≡ 0 → k .due .0 ≡ p → Keyed x (kindOf kind) p k
 key-none x p kind k hp h hf ht hd =
     record {
       label = unkeyed;
       keyfrom = sym hf;
       keyto = sym ht;
-      due = λ K o from to ts. rw hd (decide (eqb kind 2) (λ t. rw t) (λ t. rw (t, ne-eqb kind 3 h)));
+      due = λ K o from to ts. rw hd (cases (eqb kind (kindNumber array)) (λ t. rw t) (λ t. rw (t, ne-eqb kind (kindNumber object) h)));
       later = omega (arith, hd);
       within = omega (arith, hd);
       fromIn = omega (arith, hf);
@@ -82,7 +84,7 @@ around-key : {K : Stack} {c : Kind} {o from to n left : ℕ} {ts : Trees} {k : K
 around-key k′ a = record { below = a .below; sofar = a .sofar }
 
 module _ {x : Text} {c : Kind} {p : ℕ} {k : Found} (l : Keyed x c p k) (n left : ℕ) where
-  pub whole-child : {w w′ : Words} {u : ℕ} {r : Read} → Whole (λ K. before (value K)) x w w′ (k .due .0) n left (k .from .0) (k .to .0) u r
+  pub whole-child : {w w′ : Words} {u : ℕ} {r : Read} → WholeValue (λ K. before (value K)) x w w′ (k .due .0) n left (k .from .0) (k .to .0) u r
       → WholeChild c x w w′ p n left u r
   whole-child v =
       record {
@@ -244,6 +246,6 @@ module _ {x : Text} {w w′ : Words} {at n : ℕ} {c : Kind} {left p m i d : ℕ
         };
       }
 
-  pub neither-refused : (getD x q 0 ≡ closer c → ⊥) → (getD x q 0 ≡ comma → ⊥) → (o from to : ℕ) → RefusedBy (λ K. begun K (fresh c o from to)) x at n (suc left) 4 q
+  pub neither-refused : (getD x q 0 ≡ closer c → ⊥) → (getD x q 0 ≡ comma → ⊥) → (o from to : ℕ) → RefusedBy (λ K. begun K (fresh c o from to)) x at n (suc left) (faultNumber syntax) q
   neither-refused h k o from to =
       record { fault = syntax; number = refl; refuses = λ K a. s .reading K o from to a ∙ after-other K (framed c o from to (s .children) unkeyed) x p q e h k; within = stop-in }

@@ -9,16 +9,18 @@ use lib.ListN.{drop, getD}
 use lib.Seq.{drop-drop}
 use lib.Dec.{eqb}
 use borrow.Author.Tests.{eq-eqb, ne-eqb, eqb-true}
+use borrow.Table.Steps.{cases}
 use Rattle.cel_text.specs.Byte.{Text, blank, identByte, stringByte, alphanumeric, lead, comma, quote}
-use Rattle.cel_text.specs.Tree.{Kind, array, object, function, closer, string}
+use Rattle.cel_text.specs.Tree.{Kind, array, object, function, opener, closer, string}
 use Rattle.cel_text.specs.Reading.{Stack, Frame, Due, value, entry, State, before, naming, named, quoted, dropping, begun, after, Step, go, refuse, syntax, refused, child, whole, closed, past, bare}
 use Rattle.cel_text.specs.Reading.{start, unquote, step, follow, run, limits}
+use Rattle.cel_text.specs.Table.{kindNumber}
 use Rattle.cel_text.specs.Laws.Class.{closer-comma, closer-closer}
 use Rattle.parser.specs.Set.{stringSet}
 use Rattle.parser.specs.Run.{endOf, NamedAt}
 use Rattle.parser.specs.Kinds.{openerKind, opens}
 use Rattle.parser.specs.Steps.{reads, goesOn}
-use Rattle.parser.proofs.Runs.{decide, end-stop, end-more, end-other, class-within}
+use Rattle.parser.proofs.Runs.{end-stop, end-more, end-other, class-within}
 
 -- what a byte does in a state
 abbrev pub does : State → (p b : ℕ) → Step
@@ -79,7 +81,7 @@ over f st h x p = over-lead (drop p x) p ∙ ap (run stringSet limits st (endOf 
     over-lead : (y : Text) (p : ℕ) → run stringSet limits st p y ≡ run stringSet limits st (p + lead f y) (drop (lead f y) y)
     over-lead [] p = rw add-zero
     over-lead (b ∷ bs) p =
-        decide (f b)
+        cases (f b)
         (λ t. rw (h p b t, t) (over-lead bs (suc p) ∙ ap (λ (q : ℕ). run stringSet limits st q (drop (lead f bs) bs)) (omega arith)))
         (λ t. rw (t, add-zero))
 
@@ -117,20 +119,21 @@ named-past w from to p b nb = rw nb
 
 -- the name that a value's row shows: none for an array
 abbrev pub named-from : (kind place : ℕ) → ℕ
-named-from kind p = cond (eqb kind 2) 0 p
+named-from kind p = cond (eqb kind (kindNumber array)) 0 p
 
 -- the byte that opens a value, after an identifier and after none
 past-opens : (K : Stack) (from to p b : ℕ) → past stringSet limits (value K) from to p b ≡ opens (openerKind false b) K (named-from (openerKind false b) from) (named-from (openerKind false b) to) p
 unfolding past
 past-opens K from to p b =
-    decide (eqb b 123) (λ t. rw t) (λ t₁. decide (eqb b 40) (λ t. rw (t₁, t))
-    (λ t₂. decide (eqb b 91) (λ t. rw (t₁, t₂, t)) (λ t₃. decide (eqb b 34) (λ t. rw (t₁, t₂, t₃, t)) (λ t. rw (t₁, t₂, t₃, t)))))
+    cases (eqb b (opener object)) (λ t. rw t) (λ t₁. cases (eqb b (opener function)) (λ t. rw (t₁, t))
+    (λ t₂. cases (eqb b (opener array)) (λ t. rw (t₁, t₂, t)) (λ t₃. cases (eqb b quote) (λ t. rw (t₁, t₂, t₃, t)) (λ t. rw (t₁, t₂, t₃, t)))))
 
 bare-opens : (K : Stack) (p b : ℕ) → bare stringSet limits (value K) p b ≡ opens (openerKind true b) K (named-from (openerKind true b) p) (named-from (openerKind true b) p) p
 unfolding bare past
 bare-opens K p b =
-    decide (eqb b 123) (λ t. rw (eqb-true b 123 t))
-    (λ t₁. decide (eqb b 40) (λ t. rw (eqb-true b 40 t)) (λ t₂. decide (eqb b 91) (λ t. rw (t₁, t₂, t)) (λ t₃. decide (eqb b 34) (λ t. rw (t₁, t₂, t₃, t)) (λ t. rw (t₁, t₂, t₃, t)))))
+    cases (eqb b (opener object)) (λ t. rw (eqb-true b (opener object) t))
+    (λ t₁. cases (eqb b (opener function)) (λ t. rw (eqb-true b (opener function) t))
+    (λ t₂. cases (eqb b (opener array)) (λ t. rw (t₁, t₂, t)) (λ t₃. cases (eqb b quote) (λ t. rw (t₁, t₂, t₃, t)) (λ t. rw (t₁, t₂, t₃, t)))))
 
 module _ (x : Text) {p from to end : ℕ} (n : NamedAt x p from to end) where
   no-blank : blank (getD x from 0) ≡ false
@@ -144,7 +147,7 @@ module _ (x : Text) {p from to end : ℕ} (n : NamedAt x p from to end) where
   empty-ends e = n .ends ∙ rw (sym e) (end-stop blank x from no-blank)
 
   over-name : (w : Due) → reads (before w) x p ≡ goesOn (pastName w from to end (getD x end 0)) x end
-  over-name w = first ∙ decide (identByte (getD x from 0)) long (λ t. short (n .stops ∙ end-stop identByte x from t) t)
+  over-name w = first ∙ cases (identByte (getD x from 0)) long (λ t. short (n .stops ∙ end-stop identByte x from t) t)
     where
       first : reads (before w) x p ≡ reads (before w) x from
       first = rw (n .begins) (over-before w x p)
@@ -170,7 +173,7 @@ module _ (x : Text) {p from to end : ℕ} (n : NamedAt x p from to end) where
           ∙ sees (named w from to) x end (named-past w from to end (getD x end 0) other))
 
   past-entry : (K : Stack) (f : Frame) → pastName (entry K f) from to end (getD x end 0) ≡ past stringSet limits (entry K f) from to end (getD x end 0)
-  past-entry K f = decide (eqb from to) same (λ t. rw t)
+  past-entry K f = cases (eqb from to) same (λ t. rw t)
     where
       same : eqb from to ≡ true → pastName (entry K f) from to end (getD x end 0) ≡ past stringSet limits (entry K f) from to end (getD x end 0)
       same t =
@@ -184,7 +187,7 @@ module _ (x : Text) {p from to end : ℕ} (n : NamedAt x p from to end) where
 
   past-value : (K : Stack) → pastName (value K) from to end (getD x end 0)
       ≡ opens (openerKind (eqb from to) (getD x end 0)) K (named-from (openerKind (eqb from to) (getD x end 0)) from) (named-from (openerKind (eqb from to) (getD x end 0)) to) end
-  past-value K = decide (eqb from to) same (λ t. rw t (past-opens K from to end (getD x end 0)))
+  past-value K = cases (eqb from to) same (λ t. rw t (past-opens K from to end (getD x end 0)))
     where
       same : eqb from to ≡ true → pastName (value K) from to end (getD x end 0)
           ≡ opens (openerKind (eqb from to) (getD x end 0)) K (named-from (openerKind (eqb from to) (getD x end 0)) from) (named-from (openerKind (eqb from to) (getD x end 0)) to) end

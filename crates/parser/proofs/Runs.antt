@@ -1,22 +1,18 @@
 -- Where a run of a class of bytes ends. Assumes nothing.
 use mathlib.Core.Path.{_≡_, refl, sym, ap, subst, _∙_}
 use Prim.Native.Nat.{ℕ, zero, suc, _+_, _-_, _≤_, _<_}
-use native.Mathlib.Nat.{add-zero, zero-add, sub-zero, zero-sub, suc-sub-suc}
+use native.Mathlib.Nat.{add-zero, zero-add}
 use native.Mathlib.Omega.{arith}
 use mathlib.Core.Bool.{Bool, true, false, not}
 use mathlib.Core.List.{[], _∷_}
-use lib.ListN.{length, take, drop, getD, drop-of-length-le, length-drop}
-use lib.Seq.{drop-cons, getD-drop, slice, take-nil}
+use lib.ListN.{length, drop, getD, drop-of-length-le, length-drop}
+use lib.Seq.{drop-cons, getD-drop}
 use lib.Dec.{T, ltb, ltb→lt, nltb→le}
-use borrow.Author.Tests.{lt-ltb}
+use borrow.Author.Tests.{lt-ltb, ltb-true}
+use borrow.Table.Steps.{cases}
 use Rattle.cel_text.specs.Byte.{Text, lead, blank, ascii}
 use Rattle.parser.specs.Run.{endOf, Spaces}
 use Rattle.parser.proofs.Classes.{space-blank}
-
--- a test is true or false
-pub decide : {P : Type 0} (b : Bool) → (b ≡ true → P) → (b ≡ false → P) → P
-decide true h k = h refl
-decide false h k = k refl
 
 module _ (f : ℕ → Bool) where
   lead-stop : (x : Text) (p : ℕ) → f (getD x p 0) ≡ false → lead f (drop p x) ≡ 0
@@ -29,11 +25,11 @@ module _ (f : ℕ → Bool) where
   lead-within [] = omega arith
   lead-within (b ∷ bs) =
       let more : lead f bs ≤ length bs = lead-within bs in
-      decide (f b) (λ t. rw t (omega arith)) (λ t. rw t (omega arith))
+      cases (f b) (λ t. rw t (omega arith)) (λ t. rw t (omega arith))
 
   lead-other : f 0 ≡ false → (x : Text) → f (getD x (lead f x) 0) ≡ false
   lead-other z [] = z
-  lead-other z (b ∷ bs) = decide (f b) (λ t. rw t (lead-other z bs)) (λ t. rw t t)
+  lead-other z (b ∷ bs) = cases (f b) (λ t. rw t (lead-other z bs)) (λ t. rw t t)
 
   module _ (x : Text) where
     -- past the text a run is empty
@@ -73,7 +69,7 @@ module _ (x : Text) where
   spaces-more {q = q} s t = (
     omega (arith, s .0, t .0),
     t .1,
-    λ i a b. decide (ltb i q) (λ l. s .2 i a (ltb→lt i q (subst T (sym l) tt))) (λ l. t .2 i (nltb→le i q (subst (λ (y : Bool). T (not y)) (sym l) tt)) b),
+    λ i a b. cases (ltb i q) (λ l. s .2 i a (ltb→lt i q (subst T (sym l) tt))) (λ l. t .2 i (nltb→le i q (subst (λ (y : Bool). T (not y)) (sym l) tt)) b),
   )
 
   pub spaces-eight : {p n : ℕ} → Spaces x p (p + n) → n ≤ 8 → 8 ≤ n → Spaces x p (p + 8)
@@ -96,23 +92,17 @@ byte-within (b ∷ bs) (suc p) h = let rest : p < length bs = byte-within bs p h
 pub class-within : (f : ℕ → Bool) → f 0 ≡ false → (x : Text) (p : ℕ) → f (getD x p 0) ≡ true → p < length x
 class-within f z x p t = byte-within x p (λ e. subst T (sym t ∙ ap f e ∙ z) tt)
 
-ascii-below : (b : ℕ) → b < 128 → ascii b ≡ true
+-- a byte that is no greater than one of ASCII is one
+ascii-below : (b most : ℕ) → b ≤ most → ascii most ≡ true → ascii b ≡ true
 unfolding ascii
-ascii-below b h = lt-ltb b 128 h
+ascii-below b most h t = lt-ltb b _ (omega (arith, ltb-true most _ t))
 
--- a text without a byte of 128 or more
-pub all-ascii : (x : Text) → ((k : ℕ) → k < length x → getD x k 0 < 128) → endOf ascii x 0 ≡ length x
-all-ascii x h = zero-add (lead ascii x) ∙ leads x h
+-- a text whose bytes are no greater than one of ASCII
+pub all-ascii : (x : Text) (most : ℕ) → ascii most ≡ true → ((k : ℕ) → k < length x → getD x k 0 ≤ most) → endOf ascii x 0 ≡ length x
+all-ascii x most t h = zero-add (lead ascii x) ∙ leads x h
   where
-    leads : (x : Text) → ((k : ℕ) → k < length x → getD x k 0 < 128) → lead ascii x ≡ length x
+    leads : (x : Text) → ((k : ℕ) → k < length x → getD x k 0 ≤ most) → lead ascii x ≡ length x
     leads [] h = refl
     leads (b ∷ bs) h =
         let rest : lead ascii bs ≡ length bs = leads bs (λ k l. h (suc k) (omega arith)) in
-        rw (ascii-below b (h 0 (omega arith))) (omega arith)
-
--- a part of a slice is `slice`
-pub part-slice : (f t : ℕ) (l : Text) → take (t - f) (drop f l) ≡ slice f t l
-part-slice zero t l = rw sub-zero
-part-slice (suc f) zero l = rw zero-sub
-part-slice (suc f) (suc t) [] = take-nil (suc t - suc f)
-part-slice (suc f) (suc t) (b ∷ l) = rw suc-sub-suc (part-slice f t l)
+        rw (ascii-below b most (h 0 (omega arith)) t) (omega arith)

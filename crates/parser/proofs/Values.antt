@@ -9,17 +9,19 @@ use lib.ListN.{length, drop, getD}
 use lib.Seq.{sets}
 use lib.Dec.{eqb}
 use borrow.Author.Tests.{eq-eqb, ne-eqb, eqb-true, eqb-false}
+use borrow.Table.Steps.{cases}
 use Rattle.cel_text.specs.Byte.{Text, blank, identByte, quote}
-use Rattle.cel_text.specs.Tree.{Tree, string, container, nodesAll}
+use Rattle.cel_text.specs.Tree.{array, object, function, opener, Tree, string, container, nodesAll}
 use Rattle.cel_text.specs.Reading.{Stack, inside, level, opened, value, State, before, quoted, begun, Step, syntax, tooDeep, tooMany, refused, fresh, enter, enterString, limits, maxDepth, maxNodes}
-use Rattle.cel_text.specs.Table.{Words, kindNumber, rowWords}
+use Rattle.cel_text.specs.Table.{Words, stringKind, kindNumber, rowWords}
+use Rattle.cel_text.specs.Answer.{faultNumber}
 use Rattle.cel_text.specs.Laws.Run.{whole-resumes}
 use Rattle.parser.specs.Set.{stringSet}
 use Rattle.parser.specs.declared.Read.{Read}
 use Rattle.parser.specs.Run.{endOf, NamedAt}
 use Rattle.parser.specs.Kinds.{kindOf, openerKind, opens, openState}
-use Rattle.parser.specs.Steps.{reads, goesOn, Around, RefusedBy, Headed, Entered, Barred, Sized, Whole, WholeList}
-use Rattle.parser.proofs.Runs.{decide, end-within, byte-within}
+use Rattle.parser.specs.Steps.{reads, goesOn, Around, RefusedBy, Headed, Entered, NotEntered, Sized, WholeValue, WholeList}
+use Rattle.parser.proofs.Runs.{end-within, byte-within}
 use Rattle.parser.proofs.Machine.{named-from, over-opener, over-string}
 use Rattle.parser.proofs.Rows.{rows-string, rows-container}
 
@@ -38,20 +40,20 @@ around-room : {K : Stack} {n left : ℕ} → Around K n left → (n ≡ maxNodes
 around-room {K = K} a h = ne-eqb (opened K) maxNodes (λ e. h (sym (a .sofar) ∙ e))
 
 module _ (kind p n left : ℕ) where
-  pub barred-none : kind ≡ 0 → Barred kind p n left 4 p
-  barred-none e = record { fault = syntax; number = refl; refuses = λ K from to a. rw e; there = refl }
+  pub stopped-none : kind ≡ 0 → NotEntered kind p n left (faultNumber syntax) p
+  stopped-none e = record { fault = syntax; number = refl; refuses = λ K from to a. rw e; there = refl }
 
-  opens-string : kind ≡ 1 → (K : Stack) (from to : ℕ) → opens kind K from to p ≡ enterString stringSet limits K p
+  opens-string : kind ≡ stringKind → (K : Stack) (from to : ℕ) → opens kind K from to p ≡ enterString stringSet limits K p
   opens-string e K from to = rw e
 
-  opens-container : (kind ≡ 0 → ⊥) → (kind ≡ 1 → ⊥) → (K : Stack) (from to : ℕ) → opens kind K from to p ≡ enter stringSet limits (kindOf kind) K from to p
-  opens-container h₀ h₁ K from to = rw (ne-eqb kind 0 h₀, ne-eqb kind 1 h₁)
+  opens-container : (kind ≡ 0 → ⊥) → (kind ≡ stringKind → ⊥) → (K : Stack) (from to : ℕ) → opens kind K from to p ≡ enter stringSet limits (kindOf kind) K from to p
+  opens-container h₀ h₁ K from to = rw (ne-eqb kind 0 h₀, ne-eqb kind stringKind h₁)
 
-  barred-string : kind ≡ 1 → n ≡ maxNodes → Barred kind p n left 6 p
+  stopped-string : kind ≡ stringKind → n ≡ maxNodes → NotEntered kind p n left (faultNumber tooMany) p
   unfolding enterString
-  barred-string e full = record { fault = tooMany; number = refl; refuses = λ K from to a. opens-string e K from to ∙ rw (around-full a full); there = refl }
+  stopped-string e full = record { fault = tooMany; number = refl; refuses = λ K from to a. opens-string e K from to ∙ rw (around-full a full); there = refl }
 
-  entered-string : kind ≡ 1 → (n ≡ maxNodes → ⊥) → n ≤ maxNodes → Entered kind p n left (p + 1)
+  entered-string : kind ≡ stringKind → (n ≡ maxNodes → ⊥) → n ≤ maxNodes → Entered kind p n left (p + 1)
   unfolding enterString
   entered-string e some few =
       record {
@@ -62,14 +64,14 @@ module _ (kind p n left : ℕ) where
         goes = λ K from to a. opens-string e K from to ∙ rw (around-room a some, e);
       }
 
-  module _ (h₀ : kind ≡ 0 → ⊥) (h₁ : kind ≡ 1 → ⊥) where
-    pub barred-deep : left ≡ 0 → Barred kind p n left 5 p
+  module _ (h₀ : kind ≡ 0 → ⊥) (h₁ : kind ≡ stringKind → ⊥) where
+    pub stopped-deep : left ≡ 0 → NotEntered kind p n left (faultNumber tooDeep) p
     unfolding enter
-    barred-deep e = record { fault = tooDeep; number = refl; refuses = λ K from to a. opens-container h₀ h₁ K from to ∙ rw (around-deep a e); there = refl }
+    stopped-deep e = record { fault = tooDeep; number = refl; refuses = λ K from to a. opens-container h₀ h₁ K from to ∙ rw (around-deep a e); there = refl }
 
-    barred-many : (left ≡ 0 → ⊥) → n ≡ maxNodes → Barred kind p n left 6 p
+    stopped-many : (left ≡ 0 → ⊥) → n ≡ maxNodes → NotEntered kind p n left (faultNumber tooMany) p
     unfolding enter
-    barred-many l full =
+    stopped-many l full =
         record { fault = tooMany; number = refl; refuses = λ K from to a. opens-container h₀ h₁ K from to ∙ rw (around-shallow a l, around-full a full); there = refl }
 
     entered-container : (left ≡ 0 → ⊥) → (n ≡ maxNodes → ⊥) → n ≤ maxNodes → Entered kind p n left (p + 1)
@@ -80,38 +82,38 @@ module _ (kind p n left : ℕ) where
           some = h₀;
           room = omega arith;
           deeper = λ h. omega arith;
-          goes = λ K from to a. opens-container h₀ h₁ K from to ∙ rw (around-shallow a l, around-room a some, ne-eqb kind 1 h₁);
+          goes = λ K from to a. opens-container h₀ h₁ K from to ∙ rw (around-shallow a l, around-room a some, ne-eqb kind stringKind h₁);
         }
 
   -- a string, or a container that may open here
-  module _ (h₀ : kind ≡ 0 → ⊥) (h₁ : (kind ≡ 1 → ⊥) → left ≡ 0 → ⊥) where
-    pub barred-full : n ≡ maxNodes → Barred kind p n left 6 p
-    barred-full full =
-        decide (eqb kind 1) (λ t. barred-string (eqb-true kind 1 t) full) (λ t. barred-many h₀ (eqb-false kind 1 t) (h₁ (eqb-false kind 1 t)) full)
+  module _ (h₀ : kind ≡ 0 → ⊥) (h₁ : (kind ≡ stringKind → ⊥) → left ≡ 0 → ⊥) where
+    pub stopped-full : n ≡ maxNodes → NotEntered kind p n left (faultNumber tooMany) p
+    stopped-full full =
+        cases (eqb kind stringKind) (λ t. stopped-string (eqb-true kind stringKind t) full) (λ t. stopped-many h₀ (eqb-false kind stringKind t) (h₁ (eqb-false kind stringKind t)) full)
 
     pub entered : (n ≡ maxNodes → ⊥) → n ≤ maxNodes → Entered kind p n left (p + 1)
     entered some few =
-        decide (eqb kind 1) (λ t. entered-string (eqb-true kind 1 t) some few)
-        (λ t. entered-container h₀ (eqb-false kind 1 t) (h₁ (eqb-false kind 1 t)) some few)
+        cases (eqb kind stringKind) (λ t. entered-string (eqb-true kind stringKind t) some few)
+        (λ t. entered-container h₀ (eqb-false kind stringKind t) (h₁ (eqb-false kind stringKind t)) some few)
 
 -- ---- what opens a value
 
 opener-byte : (e : Bool) (b : ℕ) → (openerKind e b ≡ 0 → ⊥) → b ≡ 0 → ⊥
 opener-byte e b h z = h (rw z)
 
-opener-numbered : (e : Bool) (b : ℕ) → (openerKind e b ≡ 0 → ⊥) → (openerKind e b ≡ 1 → ⊥) → kindNumber (kindOf (openerKind e b)) ≡ openerKind e b
+opener-numbered : (e : Bool) (b : ℕ) → (openerKind e b ≡ 0 → ⊥) → (openerKind e b ≡ stringKind → ⊥) → kindNumber (kindOf (openerKind e b)) ≡ openerKind e b
 opener-numbered e b h₀ h₁ =
-    decide (eqb b 123) (λ t. rw t) (λ t₁. decide (eqb b 40) (λ t. rw (t₁, t))
-    (λ t₂. decide (eqb b 91) (bracket t₁ t₂) (λ t₃. decide (eqb b 34) (mark t₁ t₂ t₃) (λ t. absurd (h₀ (rw (t₁, t₂, t₃, t)))))))
+    cases (eqb b (opener object)) (λ t. rw t) (λ t₁. cases (eqb b (opener function)) (λ t. rw (t₁, t))
+    (λ t₂. cases (eqb b (opener array)) (bracket t₁ t₂) (λ t₃. cases (eqb b quote) (mark t₁ t₂ t₃) (λ t. absurd (h₀ (rw (t₁, t₂, t₃, t)))))))
   where
-    bracket : eqb b 123 ≡ false → eqb b 40 ≡ false → eqb b 91 ≡ true → kindNumber (kindOf (openerKind e b)) ≡ openerKind e b
-    bracket t₁ t₂ t = decide e (λ y. rw (t₁, t₂, t, y)) (λ y. absurd (h₀ (rw (t₁, t₂, t, y))))
+    bracket : eqb b (opener object) ≡ false → eqb b (opener function) ≡ false → eqb b (opener array) ≡ true → kindNumber (kindOf (openerKind e b)) ≡ openerKind e b
+    bracket t₁ t₂ t = cases e (λ y. rw (t₁, t₂, t, y)) (λ y. absurd (h₀ (rw (t₁, t₂, t, y))))
 
-    mark : eqb b 123 ≡ false → eqb b 40 ≡ false → eqb b 91 ≡ false → eqb b 34 ≡ true → kindNumber (kindOf (openerKind e b)) ≡ openerKind e b
-    mark t₁ t₂ t₃ t = decide e (λ y. absurd (h₁ (rw (t₁, t₂, t₃, t, y)))) (λ y. absurd (h₀ (rw (t₁, t₂, t₃, t, y))))
+    mark : eqb b (opener object) ≡ false → eqb b (opener function) ≡ false → eqb b (opener array) ≡ false → eqb b quote ≡ true → kindNumber (kindOf (openerKind e b)) ≡ openerKind e b
+    mark t₁ t₂ t₃ t = cases e (λ y. absurd (h₁ (rw (t₁, t₂, t₃, t, y)))) (λ y. absurd (h₀ (rw (t₁, t₂, t₃, t, y))))
 
 named-in : (kind p l : ℕ) → p ≤ l → named-from kind p ≤ l
-named-in kind p l h = decide (eqb kind 2) (λ t. rw t (omega arith)) (λ t. rw t h)
+named-in kind p l h = cases (eqb kind (kindNumber array)) (λ t. rw t (omega arith)) (λ t. rw t h)
 
 -- where a name stands
 pub record Bounds (x : Text) (p from to end : ℕ) : Type 0 where
@@ -158,7 +160,7 @@ sized-from h s =
 
 pub whole-from : {st st′ : Stack → State} {x : Text} {w w′ : Words} {at p n left kf kt u : ℕ} {r : Read}
     → ((K : Stack) → Around K n left → reads (st K) x at ≡ reads (st′ K) x p) → at ≤ p
-    → Whole st′ x w w′ p n left kf kt u r → Whole st x w w′ at n left kf kt u r
+    → WholeValue st′ x w w′ p n left kf kt u r → WholeValue st x w w′ at n left kf kt u r
 whole-from gets h v = record { tree = v .tree; reading = λ K a. gets K a ∙ v .reading K a; rows = v .rows; sized = sized-from h (v .sized) }
 
 pub refused-from : {st st′ : Stack → State} {x : Text} {at p n left r q : ℕ} → ((K : Stack) → Around K n left → reads (st K) x at ≡ reads (st′ K) x p)
@@ -166,7 +168,7 @@ pub refused-from : {st st′ : Stack → State} {x : Text} {at p n left r q : �
 refused-from gets v = record { fault = v .fault; number = v .number; refuses = λ K a. gets K a ∙ v .refuses K a; within = v .within }
 
 module _ {x : Text} {at kind from to o : ℕ} (h : Headed x at kind from to o) (n left : ℕ) where
-  pub value-barred : {r q : ℕ} → Barred kind o n left r q → RefusedBy (λ K. before (value K)) x at n left r q
+  pub value-barred : {r q : ℕ} → NotEntered kind o n left r q → RefusedBy (λ K. before (value K)) x at n left r q
   value-barred b =
       record {
         fault = b .fault;
@@ -179,18 +181,18 @@ module _ {x : Text} {at kind from to o : ℕ} (h : Headed x at kind from to o) (
     value-enters : (K : Stack) → Around K n left → reads (before (value K)) x at ≡ reads (openState kind K from to o) x q
     value-enters K a = h .enters K ∙ ap (λ (s : Step). goesOn s x o) (e .goes K from to a) ∙ ap (reads (openState kind K from to o) x) (sym (e .next))
 
-    pub at-string : kind ≡ 1 → (K : Stack) → Around K n left → reads (before (value K)) x at ≡ reads (quoted K o) x q
+    pub at-string : kind ≡ stringKind → (K : Stack) → Around K n left → reads (before (value K)) x at ≡ reads (quoted K o) x q
     at-string k K a = value-enters K a ∙ rw k
 
-    pub at-container : (kind ≡ 1 → ⊥) → (K : Stack) → Around K n left → reads (before (value K)) x at ≡ reads (begun K (fresh (kindOf kind) o from to)) x q
-    at-container k K a = value-enters K a ∙ rw (ne-eqb kind 1 k)
+    pub at-container : (kind ≡ stringKind → ⊥) → (K : Stack) → Around K n left → reads (before (value K)) x at ≡ reads (begun K (fresh (kindOf kind) o from to)) x q
+    at-container k K a = value-enters K a ∙ rw (ne-eqb kind stringKind k)
 
     pub value-later : at ≤ q
     value-later = omega (arith, h .later, e .next)
 
     -- a container whose row was begun before its list was read
-    pub value-list : {w w₁ w₂ : Words} {left′ kf kt u : ℕ} {r : Read} → (kind ≡ 1 → ⊥) → left ≡ suc left′ → w₁ ≡ sets w (rowWords * n) (kind ∷ from ∷ to ∷ kf ∷ kt ∷ u ∷ [])
-        → WholeList x w₁ w₂ q n (kindOf kind) left′ r → Whole (λ K. before (value K)) x w w₂ at n left kf kt u r
+    pub value-list : {w w₁ w₂ : Words} {left′ kf kt u : ℕ} {r : Read} → (kind ≡ stringKind → ⊥) → left ≡ suc left′ → w₁ ≡ sets w (rowWords * n) (kind ∷ from ∷ to ∷ kf ∷ kt ∷ u ∷ [])
+        → WholeList x w₁ w₂ q n (kindOf kind) left′ r → WholeValue (λ K. before (value K)) x w w₂ at n left kf kt u r
     value-list {w = w} {w₁ = w₁} {left′ = left′} {kf = kf} {kt = kt} {u = u} {r = r} k hl hw v =
         let t : Tree = container (kindOf kind) o from to (r .end .0) (v .children) in
         let z : Sized t x q n (suc left′) r = v .sized o from to (r .end .0) in
@@ -223,7 +225,7 @@ module _ (x : Text) (o at to end n left : ℕ) (ht : to ≡ endOf stringSet x at
   pub string-whole : {w w₁ w₂ : Words} {kf kt u : ℕ} (r : Read) → r .end .0 ≡ suc end → r .next .0 ≡ suc n → r .depth ≡ 0
       → getD x end 0 ≡ quote → n < maxNodes → at ≡ suc o
       → w₁ ≡ sets w (rowWords * n) (1 ∷ at ∷ to ∷ kf ∷ kt ∷ u ∷ []) → w₂ ≡ sets w₁ (rowWords * n + 6) (0 ∷ r .next .0 ∷ [])
-      → Whole (λ K. quoted K o) x w w₂ at n left kf kt u r
+      → WholeValue (λ K. quoted K o) x w w₂ at n left kf kt u r
   string-whole {w = w} {kf = kf} {kt = kt} {u = u} r er en ed h room ho h₁ h₂ =
       let inside : end < length x = byte-within x end (λ z. omega (arith, h)) in
       let t : Tree = string o to (suc end) in

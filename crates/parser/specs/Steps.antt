@@ -8,7 +8,7 @@ use lib.Seq.{sets}
 use Rattle.cel_text.specs.Byte.{Text}
 use Rattle.cel_text.specs.Tree.{Kind, Key, unkeyed, Tree, Trees, container, nodes, depth, count}
 use Rattle.cel_text.specs.Reading.{Stack, inside, Frame, level, opened, State, before, value, quoted, begun, child, fresh, Fault, Outcome, refused, follow, refuse, go, run, limits, maxDepth, maxNodes}
-use Rattle.cel_text.specs.Table.{Words, rowsOf, rowsAll, kindNumber, keyFrom, keyTo, rowWords, nodeWords}
+use Rattle.cel_text.specs.Table.{Words, rowsOf, rowsAll, stringKind, kindNumber, keyFrom, keyTo, rowWords, nodeWords}
 use Rattle.cel_text.specs.Answer.{faultNumber, maxText}
 use Rattle.cel_text.specs.Laws.Run.{resume}
 use Rattle.parser.specs.Set.{stringSet}
@@ -43,7 +43,7 @@ pub record RefusedBy (st : Stack → State) (x : Text) (at n left r p : ℕ) : T
   pub within : p ≤ length x
 
 -- what is lent and where reading stands
-pub record Ready (x : Text) (w : Words) (at n left : ℕ) : Type 0 where
+pub record Limited (x : Text) (w : Words) (at n left : ℕ) : Type 0 where
   pub short : length x ≤ maxText
   pub inside : at ≤ length x
   pub counted : length w ≡ nodeWords
@@ -58,17 +58,17 @@ pub record Headed (x : Text) (p kind from to o : ℕ) : Type 0 where
   pub opener : (kind ≡ 0 → ⊥) → o < length x
   pub fromIn : from ≤ length x
   pub toIn : to ≤ length x
-  pub numbered : (kind ≡ 0 → ⊥) → (kind ≡ 1 → ⊥) → kindNumber (kindOf kind) ≡ kind
+  pub numbered : (kind ≡ 0 → ⊥) → (kind ≡ stringKind → ⊥) → kindNumber (kindOf kind) ≡ kind
 
 -- an opener of this kind at place p, under the limits
 pub record Entered (kind p n left q : ℕ) : Type 0 where
   pub next : q ≡ suc p
   pub some : kind ≡ 0 → ⊥
   pub room : n < maxNodes
-  pub deeper : (kind ≡ 1 → ⊥) → 0 < left
+  pub deeper : (kind ≡ stringKind → ⊥) → 0 < left
   pub goes : (K : Stack) (from to : ℕ) → Around K n left → opens kind K from to p ≡ go (openState kind K from to p)
 
-pub record Barred (kind p n left r q : ℕ) : Type 0 where
+pub record NotEntered (kind p n left r q : ℕ) : Type 0 where
   pub fault : Fault
   pub number : faultNumber fault ≡ r
   pub refuses : (K : Stack) (from to : ℕ) → Around K n left → opens kind K from to p ≡ refuse fault
@@ -76,7 +76,7 @@ pub record Barred (kind p n left r q : ℕ) : Type 0 where
 
 abbrev pub Opens : (kind p n left : ℕ) → Pass → Type 0
 Opens kind p n left (Past q) = Entered kind p n left (q .0)
-Opens kind p n left (Stopped r q) = Barred kind p n left r (q .0)
+Opens kind p n left (Stopped r q) = NotEntered kind p n left r (q .0)
 
 -- what is told of a value that was read from place `at` on, as node n, where `left` more containers may open
 pub record Sized (t : Tree) (x : Text) (at n left : ℕ) (r : Read) : Type 0 where
@@ -93,20 +93,20 @@ abbrev pub resumes : Stack → Tree → Text → Read → Outcome
 resumes K t x r = resume stringSet limits K t (r .end .0) (drop (r .end .0) x)
 
 -- a whole value, from a state for each stack around: its tree and its rows
-pub record Whole (st : Stack → State) (x : Text) (w w′ : Words) (at n left kf kt u : ℕ) (r : Read) : Type 0 where
+pub record WholeValue (st : Stack → State) (x : Text) (w w′ : Words) (at n left kf kt u : ℕ) (r : Read) : Type 0 where
   pub tree : Tree
   pub reading : (K : Stack) → Around K n left → reads (st K) x at ≡ resumes K tree x r
   pub rows : (k : Key) → keyFrom k ≡ kf → keyTo k ≡ kt → w′ ≡ sets w (rowWords * n) (rowsOf tree k u n)
   pub sized : Sized tree x at n left r
 
 abbrev pub Valued : Text → (w w′ : Words) → (at n left kf kt u : ℕ) → Step → Type 0
-Valued x w w′ at n left kf kt u (Next r) = Whole (λ K. before (value K)) x w w′ at n left kf kt u r
+Valued x w w′ at n left kf kt u (Next r) = WholeValue (λ K. before (value K)) x w w′ at n left kf kt u r
 Valued x w w′ at n left kf kt u (Refused r p) = RefusedBy (λ K. before (value K)) x at n left r (p .0)
 
 -- a string whose opener stands before place `at`
-abbrev pub Quoted : Text → (w w′ : Words) → (at n kf kt u : ℕ) → Step → Type 0
-Quoted x w w′ at n kf kt u (Next r) = (o left : ℕ) → at ≡ suc o → Whole (λ K. quoted K o) x w w′ at n left kf kt u r
-Quoted x w w′ at n kf kt u (Refused r p) = (o left : ℕ) → RefusedBy (λ K. quoted K o) x at n left r (p .0)
+abbrev pub StringRead : Text → (w w′ : Words) → (at n kf kt u : ℕ) → Step → Type 0
+StringRead x w w′ at n kf kt u (Next r) = (o left : ℕ) → at ≡ suc o → WholeValue (λ K. quoted K o) x w w′ at n left kf kt u r
+StringRead x w w′ at n kf kt u (Refused r p) = (o left : ℕ) → RefusedBy (λ K. quoted K o) x at n left r (p .0)
 
 -- an open container with its children so far and the key of the child that comes next
 abbrev pub framed : Kind → (o from to : ℕ) → Trees → Key → Frame

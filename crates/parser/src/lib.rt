@@ -105,7 +105,7 @@ pub fn read_tree(text: &[u8], table: &mut [u32]) -> Answer
     ensures table { λ r. ⌜ now (table .exit) ≡ treeTable (now (text .entry)) (now (table .entry)) ⌝ }
 {
     if table.len() < NODE_WORDS {
-        return refused(TABLE_TOO_SHORT, Place(0));
+        return too_short();
     }
     row::clear(&mut table[..NODE_WORDS], 0);
     read_over(text, table)
@@ -117,12 +117,19 @@ pub fn read_over(text: &[u8], table: &mut [u32]) -> Answer
     ensures table { λ r. ⌜ now (table .exit) ≡ treeOver (now (text .entry)) (now (table .entry)) ⌝ }
 {
     if table.len() < NODE_WORDS {
-        return refused(TABLE_TOO_SHORT, Place(0));
+        return too_short();
     }
     let step = find(text, &mut table[..NODE_WORDS]);
     let answer = answer_of(step);
     row::clear(&mut table[..NODE_WORDS], stale(answer.refusal));
     answer
+}
+
+// The answer where a lent table is too short: nothing is read.
+pub fn too_short() -> Answer
+    ensures { λ r. ⌜ told r ≡ refusedAt 1 0 ⌝ }
+{
+    refused(TABLE_TOO_SHORT, Place(0))
 }
 
 // Refusals 2 and 3, then the value that the text begins with.

@@ -127,7 +127,7 @@ fn run(text: &[u8], at: Place, class: Class) -> Place
 pub(crate) fn ascii_end(text: &[u8]) -> Place
     ensures { λ r. ⌜ r .0 ≡ endOf ascii (now (text .entry)) 0 ⌝ }
 {
-    if greatest(text) < 128 {
+    if has(Class::Ascii, greatest(text)) {
         return Place(text.len());
     }
     run_of(text, Place(0), Class::Ascii)

@@ -7,7 +7,7 @@ ghost use Rattle.cel_text.specs.Reading.{maxNodes};
 ghost use Rattle.cel_text.specs.Table.{nodeWords};
 ghost use Rattle.cel_text.specs.Answer.{maxText};
 ghost use Rattle.parser.specs.Kinds.{kindOf, openerKind};
-ghost use Rattle.parser.specs.Steps.{Headed, Opens, Labels, Ready, Valued, Quoted, ChildRead, Listed};
+ghost use Rattle.parser.specs.Steps.{Headed, Opens, Labels, Limited, Valued, StringRead, ChildRead, Listed};
 use crate::ARRAY;
 use crate::FUNCTION;
 use crate::MAX_NODES;
@@ -142,7 +142,7 @@ pub(crate) fn cel_value(
     keyto: Place,
     parent: Parent,
 ) -> Step
-    requires { ⌜ Ready (now text) (now table) (at .0) (node .0) left ⌝ }
+    requires { ⌜ Limited (now text) (now table) (at .0) (node .0) left ⌝ }
     requires { ⌜ (keyfrom .0 ≤ maxText) × (keyto .0 ≤ maxText) ⌝ }
     ensures { λ r. ⌜ Valued (now (text .entry)) (now (table .entry)) (now (table .exit)) (at .0) (node .0) left (keyfrom .0) (keyto .0) (parent .0) r ⌝ }
 {
@@ -180,7 +180,7 @@ fn string(
 ) -> Step
     requires { ⌜ (at .0 ≤ length (now text)) × (length (now text) ≤ maxText) × (node .0 < maxNodes) × (length (now table) ≡ nodeWords) ⌝ }
     requires { ⌜ (keyfrom .0 ≤ maxText) × (keyto .0 ≤ maxText) ⌝ }
-    ensures { λ r. ⌜ Quoted (now (text .entry)) (now (table .entry)) (now (table .exit)) (at .0) (node .0) (keyfrom .0) (keyto .0) (parent .0) r ⌝ }
+    ensures { λ r. ⌜ StringRead (now (text .entry)) (now (table .entry)) (now (table .exit)) (at .0) (node .0) (keyfrom .0) (keyto .0) (parent .0) r ⌝ }
 {
     let to = scan::run_of(text, at, Class::StringByte);
     let end = scan::run_of(text, to, Class::Blank);
@@ -234,7 +234,7 @@ fn key_value(
     left: usize,
     parent: Parent,
 ) -> Step
-    requires { ⌜ Ready (now text) (now table) (at .0) (node .0) left ⌝ }
+    requires { ⌜ Limited (now text) (now table) (at .0) (node .0) left ⌝ }
     ensures { λ r. ⌜ ChildRead (kindOf kind) (now (text .entry)) (now (table .entry)) (now (table .exit)) (at .0) (node .0) left (parent .0) r ⌝ }
 {
     match label(text, at, kind) {
@@ -252,7 +252,7 @@ fn deeper(a: usize, b: usize) -> usize
 // The children of the container with this number and its closer, from the place after its opener; and the two words of its
 // row that are known then.
 fn list(text: &[u8], table: &mut [u32], at: Place, node: Node, kind: u32, left: usize) -> Step
-    requires { ⌜ Ready (now text) (now table) (at .0) (node .0 + 1) left ⌝ }
+    requires { ⌜ Limited (now text) (now table) (at .0) (node .0 + 1) left ⌝ }
     ensures { λ r. ⌜ Listed (now (text .entry)) (now (table .entry)) (now (table .exit)) (at .0) (node .0) kind left r ⌝ }
 {
     let close = closer_byte(kind);

@@ -15,7 +15,7 @@ use Rattle.cel_text.specs.Table.{Words}
 use Rattle.cel_policy.specs.Policy.{Span}
 use Rattle.cel_policy.specs.Spans.{spanAt, spansAt}
 use Rattle.lines.specs.Fields.{partFrom, partEnd}
-use Rattle.parser.proofs.Runs.{part-slice}
+use Rattle.cel_text.specs.Laws.Part.{part-slice}
 use Rattle.report.specs.Words.{part}
 use Rattle.report.specs.Policy.{stringText, stringsText}
 

@@ -9,7 +9,8 @@ use lib.Seq.{drop-cons, slice-cons, length-take-le}
 use lib.Dec.{eqb}
 use borrow.Author.Tests.{ne-eqb, lt-ltb, le-ltb}
 use Rattle.cel_text.specs.Byte.{Text}
-use Rattle.cel_text.specs.Table.{Words}
+use Rattle.cel_text.specs.Tree.{array}
+use Rattle.cel_text.specs.Table.{Words, stringKind, kindNumber}
 use Rattle.page.specs.Page.{shownByte}
 use Rattle.report.specs.declared.window.Side.{Side}
 use Rattle.report.specs.declared.window.Spot.{Spot}
@@ -85,19 +86,19 @@ module _ (x : Text) (i : ℕ) where
   pub bracket-none : (left : ℕ) → length x ≤ i → bracketAt (drop i x) left ≡ 0
   bracket-none left h = rw (drop-of-length-le x {i = i} h)
 
-pub arrays-more : (ws : Words) (n k : ℕ) → k ≡ cond (eqb (kindAt ws n) 2) 1 0 → arraysBefore ws n + k ≡ arraysBefore ws (n + 1)
+pub arrays-more : (ws : Words) (n k : ℕ) → k ≡ cond (eqb (kindAt ws n) (kindNumber array)) 1 0 → arraysBefore ws n + k ≡ arraysBefore ws (n + 1)
 arrays-more ws n k e = rw (add-one, e)
 
 -- where a node's text starts, by its kind
 module _ (x : Text) (ws : Words) (node kind : ℕ) (is : kind ≡ kindAt ws node) where
-  pub start-array : (before place : ℕ) → kind ≡ 2 → before ≡ arraysBefore ws node → place ≡ bracketAt x before → place ≡ startOf x ws node
+  pub start-array : (before place : ℕ) → kind ≡ kindNumber array → before ≡ arraysBefore ws node → place ≡ bracketAt x before → place ≡ startOf x ws node
   unfolding startOf
   start-array before place k b p = rw (← is, k) (p ∙ ap (bracketAt x) b)
 
-  pub start-string : (from place : ℕ) → kind ≡ 1 → from ≡ fromAt ws node → place ≡ min (from - 1) (length x) → place ≡ startOf x ws node
+  pub start-string : (from place : ℕ) → kind ≡ stringKind → from ≡ fromAt ws node → place ≡ min (from - 1) (length x) → place ≡ startOf x ws node
   unfolding startOf
   start-string from place k f p = rw (← is, k) (p ∙ ap (λ (n : ℕ). min (n - 1) (length x)) f)
 
-  pub start-other : (from place : ℕ) → (kind ≡ 2 → ⊥) → (kind ≡ 1 → ⊥) → from ≡ fromAt ws node → place ≡ min from (length x) → place ≡ startOf x ws node
+  pub start-other : (from place : ℕ) → (kind ≡ kindNumber array → ⊥) → (kind ≡ stringKind → ⊥) → from ≡ fromAt ws node → place ≡ min from (length x) → place ≡ startOf x ws node
   unfolding startOf
-  start-other from place a s f p = rw (← is, ne-eqb kind 2 a, ne-eqb kind 1 s) (p ∙ ap (λ (n : ℕ). min n (length x)) f)
+  start-other from place a s f p = rw (← is, ne-eqb kind (kindNumber array) a, ne-eqb kind stringKind s) (p ∙ ap (λ (n : ℕ). min n (length x)) f)

@@ -6,8 +6,10 @@ use lib.ListN.{length, getD}
 use lib.Seq.{slice}
 use lib.Dec.{T, ltb, leb, eqb}
 use Rattle.cel_text.specs.Byte.{Text, bytes, over, stringByte}
-use Rattle.cel_text.specs.Table.{Words, nodeWords}
-use Rattle.cel_text.specs.Answer.{Answer, maxText}
+use Rattle.cel_text.specs.Tree.{object}
+use Rattle.cel_text.specs.Reading.{tooMany}
+use Rattle.cel_text.specs.Table.{Words, kindNumber, nodeWords}
+use Rattle.cel_text.specs.Answer.{Answer, maxText, faultNumber}
 use Rattle.cel_policy.specs.Names.{spelling, spellings}
 use Rattle.cel_policy.specs.Policy.{Span, Counted, skip, full}
 use Rattle.cel_policy.specs.Spans.{spansAt, spanWords}
@@ -21,7 +23,7 @@ use Rattle.report.specs.declared.window.Spot.{Spot}
 use Rattle.report.specs.Words.{foundText, expectedText}
 use Rattle.report.specs.Window.{back, lastOf, marginText, endText, betweenText, caretText, spotOf, spotText, placeText, bytePlaceText, nodePlaceText}
 use Rattle.report.specs.Node.{kindAt, startOf}
-use Rattle.report.specs.Policy.{formText, stringText, stringsText, titleText, listText, requestText, listsText, sizeText, canonicalText, policyText}
+use Rattle.report.specs.Policy.{formText, stringText, stringsText, titleText, listLines, requestLines, listsLines, sizeText, canonicalLines, policyText}
 use Rattle.report.specs.Refusal.{readingText, insteadText, wrongText, noArgumentText, noPropertyText, choiceText, mappingText, refusalText}
 use Rattle.report.specs.Report.{answerText, nodesLent, spansLent, reported}
 
@@ -81,26 +83,26 @@ strings-legible : (x : Text) (l : List Span) → Legible (stringsText x l)
 strings-legible x [] = over
 strings-legible x (s ∷ more) = run-append (string-legible x (s .from) (s .to)) (strings-legible x more)
 
-list-legible : (x : Text) (ws : Words) (list first count : ℕ) → Legible (listText x ws list first count)
-unfolding listText titleText
+list-legible : (x : Text) (ws : Words) (list first count : ℕ) → Legible (listLines x ws list first count)
+unfolding listLines titleText
 list-legible x ws list first count = run-append (said-legible _ count) (strings-legible x (spansAt ws count first))
 
-request-legible : (x : Text) (ws : Words) (k : Counted) → Legible (requestText x ws k)
-unfolding requestText
+request-legible : (x : Text) (ws : Words) (k : Counted) → Legible (requestLines x ws k)
+unfolding requestLines
 request-legible x ws k =
     legible-cond (eqb (k .form) full)
     (run-append (list-legible x ws 0 0 (k .requestHeaders)) (list-legible x ws 1 (k .requestHeaders) (k .queryParameters)))
     over
 
-lists-legible : (x : Text) (ws : Words) (k : Counted) → Legible (listsText x ws k)
-unfolding listsText
+lists-legible : (x : Text) (ws : Words) (k : Counted) → Legible (listsLines x ws k)
+unfolding listsLines
 lists-legible x ws k =
     legible-cond (eqb (k .form) skip) over
     (run-append (said-legible _ 0)
     (run-append (request-legible x ws k) (list-legible x ws _ (k .requestHeaders + k .queryParameters) (k .responseHeaders))))
 
-canonical-legible : (p : Printing) → Legible (canonicalText p)
-unfolding canonicalText
+canonical-legible : (p : Printing) → Legible (canonicalLines p)
+unfolding canonicalLines
 canonical-legible (written t) = run-append (said-legible _ (length t)) (run-append (shown-legible t) (said-legible _ 0))
 canonical-legible (unprinted refusal place) = said-legible _ refusal
 
@@ -131,14 +133,14 @@ unfolding mappingText noArgumentText choiceText
 mapping-legible a found =
     legible-cond (eqb (a .refusal) 7) (wrong-legible (a .place) found _ (a .kind) (a .name))
     (legible-cond (eqb (a .refusal) 8) (wrong-legible (a .place) found _ found (a .name))
-    (legible-cond (eqb (a .refusal) 9) (run-append (said-legible _ 0) (instead-legible 3 (a .name)))
+    (legible-cond (eqb (a .refusal) 9) (run-append (said-legible _ 0) (instead-legible (kindNumber object) (a .name)))
     (legible-cond (eqb (a .refusal) 10) (noProperty-legible (a .name)) (said-legible _ 0))))
 
 refusal-legible : (x : Text) (ws : Words) (a : Answer) → Legible (refusalText x ws a)
 unfolding refusalText readingText
 refusal-legible x ws a =
     run-append (said-legible _ (a .refusal))
-    (legible-cond (leb (a .refusal) 6) (run-append (said-legible _ _) (bytePlace-legible x (min (a .place) (length x))))
+    (legible-cond (leb (a .refusal) (faultNumber tooMany)) (run-append (said-legible _ _) (bytePlace-legible x (min (a .place) (length x))))
     (run-append (mapping-legible a (kindAt ws (a .place))) (nodePlace-legible x (a .place) (startOf x ws (a .place)))))
 
 -- ---- a report

@@ -51,31 +51,31 @@ titleText list count =
     count
 
 -- a list, its strings being `count` of the span table from string `first` on
-unfoldable pub listText : Text → Words → (list first count : ℕ) → Text
-listText x ws list first count = titleText list count ⧺ stringsText x (spansAt ws count first)
+unfoldable pub listLines : Text → Words → (list first count : ℕ) → Text
+listLines x ws list first count = titleText list count ⧺ stringsText x (spansAt ws count first)
 
 -- the lists of the request, which only Full has
-unfoldable pub requestText : Text → Words → Counted → Text
-requestText x ws k =
+unfoldable pub requestLines : Text → Words → Counted → Text
+requestLines x ws k =
     cond (eqb (k .form) full)
-    (listText x ws 0 0 (k .requestHeaders) ⧺ listText x ws 1 (k .requestHeaders) (k .queryParameters))
+    (listLines x ws 0 0 (k .requestHeaders) ⧺ listLines x ws 1 (k .requestHeaders) (k .queryParameters))
     []
 
 -- the lists, one after the other in the span table; Skip has none
-unfoldable pub listsText : Text → Words → Counted → Text
-listsText x ws k =
+unfoldable pub listsLines : Text → Words → Counted → Text
+listsLines x ws k =
     cond (eqb (k .form) skip) []
     (said (bytes "\n") 0
-    ⧺ requestText x ws k
-    ⧺ listText x ws (cond (eqb (k .kind) exclusions) 3 2) (k .requestHeaders + k .queryParameters) (k .responseHeaders))
+    ⧺ requestLines x ws k
+    ⧺ listLines x ws (cond (eqb (k .kind) exclusions) 3 2) (k .requestHeaders + k .queryParameters) (k .responseHeaders))
 
 unfoldable pub sizeText : Answer → Text
 sizeText a = said (bytes "\n# nodes, depth ") (a .nodes) ⧺ said (bytes "#. ") (a .depth)
 
 -- the canonical text, which is not cut, or that there is none
-unfoldable pub canonicalText : Printing → Text
-canonicalText (written t) = said (bytes "Canonical text, # bytes:\n\n") (length t) ⧺ shown t ⧺ said (bytes "\n") 0
-canonicalText (unprinted refusal place) = said (bytes "No canonical text (#): it would have more than 8192 bytes.\n") refusal
+unfoldable pub canonicalLines : Printing → Text
+canonicalLines (written t) = said (bytes "Canonical text, # bytes:\n\n") (length t) ⧺ shown t ⧺ said (bytes "\n") 0
+canonicalLines (unprinted refusal place) = said (bytes "No canonical text (#): it would have more than 8192 bytes.\n") refusal
 
 unfoldable pub policyText : Text → Words → Answer → Counted → Text
-policyText x ws a k = formText (k .form) ⧺ listsText x ws k ⧺ sizeText a ⧺ canonicalText (findPrint stringByte k ws x maxText)
+policyText x ws a k = formText (k .form) ⧺ listsLines x ws k ⧺ sizeText a ⧺ canonicalLines (findPrint stringByte k ws x maxText)

@@ -4,8 +4,10 @@ use mathlib.Core.Bool.{cond}
 use lib.ListN.{length}
 use lib.Dec.{eqb, leb}
 use Rattle.cel_text.specs.Byte.{Text, _⧺_, bytes}
-use Rattle.cel_text.specs.Table.{Words}
-use Rattle.cel_text.specs.Answer.{Answer}
+use Rattle.cel_text.specs.Tree.{object}
+use Rattle.cel_text.specs.Reading.{syntax, tooMany}
+use Rattle.cel_text.specs.Table.{Words, kindNumber}
+use Rattle.cel_text.specs.Answer.{Answer, faultNumber}
 use Rattle.cel_policy.specs.Names.{spelling, response-certification, Certification, RequestCertification}
 use Rattle.page.specs.Page.{said}
 use Rattle.report.specs.Words.{message, foundText, expectedText}
@@ -15,7 +17,7 @@ use Rattle.report.specs.Node.{kindAt, startOf}
 -- the message for one of refusals 1 to 6, at place i of a text of this length: of the syntax there are two more, at the text's end, and at its
 -- first byte
 abbrev pub messageNumber : (refusal i long : ℕ) → ℕ
-messageNumber refusal i long = cond (eqb refusal 4) (cond (eqb i long) 7 (cond (eqb i 0) 8 refusal)) refusal
+messageNumber refusal i long = cond (eqb refusal (faultNumber syntax)) (cond (eqb i long) 7 (cond (eqb i 0) 8 refusal)) refusal
 
 -- what refusals 1 to 6 mean
 unfoldable pub readingText : (refusal i long : ℕ) → Text
@@ -41,7 +43,7 @@ unfoldable pub wrongText : (node found : ℕ) → (way : Text) → (kind name : 
 wrongText node found way kind name = said (bytes "node # is ") node ⧺ foundText found ⧺ said way 0 ⧺ insteadText kind name
 
 unfoldable pub noArgumentText : (name : ℕ) → Text
-noArgumentText name = said (bytes "default_certification has no argument.\n") 0 ⧺ insteadText 3 name
+noArgumentText name = said (bytes "default_certification has no argument.\n") 0 ⧺ insteadText (kindNumber object) name
 
 -- the object that must have this property
 abbrev pub owner : (name : ℕ) → ℕ
@@ -77,6 +79,6 @@ mappingText a found =
 unfoldable pub refusalText : Text → Words → Answer → Text
 refusalText x ws a =
     said (bytes "Refused (#): ") (a .refusal)
-    ⧺ cond (leb (a .refusal) 6)
+    ⧺ cond (leb (a .refusal) (faultNumber tooMany))
     (readingText (a .refusal) (min (a .place) (length x)) (length x) ⧺ bytePlaceText x (min (a .place) (length x)))
     (mappingText a (kindAt ws (a .place)) ⧺ nodePlaceText x (a .place) (startOf x ws (a .place)))

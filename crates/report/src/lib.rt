@@ -6,19 +6,21 @@ mod refusal;
 mod window;
 mod words;
 
+use ast_mapping::SPAN_WORDS;
+use parser::NODE_WORDS;
 ghost use Rattle.pieces.specs.Pieces.{Wrote};
 ghost use Rattle.report.specs.Report.{reported};
 
-// Puts the report on a text at the start of `out`, as far as there is room, and answers its length. No report needs more than
-// 32,768 bytes.
+// Puts the report on a text at the start of `out`, and answers the place after it. Where there is less room than the report has
+// bytes, its end is cut off.
 pub fn report(text: &[u8], out: &mut [u8]) -> usize
     ensures { λ r. ⌜ Wrote (now (out .entry)) (now (out .exit)) 0 r (reported (now (text .entry))) ⌝ }
 {
-    let mut nodes = [0u32; 2048];
-    let mut spans = [0u32; 512];
+    let mut nodes = [0u32; NODE_WORDS];
+    let mut spans = [0u32; SPAN_WORDS];
     let read = ast_mapping::read_policy(text, &mut nodes, &mut spans);
     let answer = read.answer;
-    if answer.refusal != 0 {
+    if answer.refusal != parser::ACCEPTED {
         return refusal::put_refusal(out, 0, answer, text, &nodes);
     }
     let policy = read.policy;

@@ -6,19 +6,21 @@ ghost use mathlib.Core.List.{_++_};
 ghost use lib.ListN.{getD, take};
 ghost use lib.Dec.{eqb};
 ghost use Rattle.cel_text.specs.Byte.{bytes, stringByte};
-ghost use Rattle.cel_policy.specs.Policy.{numbers};
+ghost use Rattle.cel_text.specs.Answer.{maxText};
+ghost use Rattle.cel_policy.specs.Policy.{numbers, exclusions};
 ghost use Rattle.cel_policy.specs.Spans.{spansAt};
 ghost use Rattle.cel_policy.specs.Answers.{findPrint};
 ghost use Rattle.parser.specs.Found.{told};
 ghost use Rattle.pieces.specs.Pieces.{Wrote};
 ghost use Rattle.page.specs.Page.{shown, said};
-ghost use Rattle.report.specs.Policy.{formText, stringText, stringsText, titleText, listText, requestText, listsText, sizeText};
-ghost use Rattle.report.specs.Policy.{canonicalText, policyText};
+ghost use Rattle.report.specs.Policy.{formText, stringText, stringsText, titleText, listLines, requestLines, listsLines, sizeText};
+ghost use Rattle.report.specs.Policy.{canonicalLines, policyText};
 use crate::words::put_message;
 use crate::words::put_part;
 use cel_policy::Policy;
 use page::say;
 use parser::Answer;
+use parser::MAX_TEXT;
 
 // The most bytes of a string that are shown.
 const WIDE: usize = 72;
@@ -126,7 +128,7 @@ fn put_list(
     count: usize,
 ) -> usize
     requires { ⌜ (list ≤ 3) × (first + count < 2 ^ 40) ⌝ }
-    ensures { λ r. ⌜ Wrote (now (out .entry)) (now (out .exit)) at r (listText (now (text .entry)) (now (spans .entry)) list first count) ⌝ }
+    ensures { λ r. ⌜ Wrote (now (out .entry)) (now (out .exit)) at r (listLines (now (text .entry)) (now (spans .entry)) list first count) ⌝ }
 {
     let end = put_title(out, at, list, count);
     put_strings(out, end, text, spans, first, count)
@@ -134,7 +136,7 @@ fn put_list(
 
 // The lists of the request, which only Full has.
 fn put_request(out: &mut [u8], at: usize, policy: Policy, text: &[u8], spans: &[u32]) -> usize
-    ensures { λ r. ⌜ Wrote (now (out .entry)) (now (out .exit)) at r (requestText (now (text .entry)) (now (spans .entry)) (numbers policy)) ⌝ }
+    ensures { λ r. ⌜ Wrote (now (out .entry)) (now (out .exit)) at r (requestLines (now (text .entry)) (now (spans .entry)) (numbers policy)) ⌝ }
 {
     if policy.form != cel_policy::FULL {
         return at;
@@ -147,7 +149,7 @@ fn put_request(out: &mut [u8], at: usize, policy: Policy, text: &[u8], spans: &[
 
 // The list of response headers of this kind.
 fn response_list(kind: u32) -> u32
-    ensures { λ r. ⌜ r ≡ cond (eqb kind 2) 3 2 ⌝ }
+    ensures { λ r. ⌜ r ≡ cond (eqb kind exclusions) 3 2 ⌝ }
     ensures { λ r. ⌜ r ≤ 3 ⌝ }
 {
     if kind == cel_policy::EXCLUSIONS {
@@ -158,7 +160,7 @@ fn response_list(kind: u32) -> u32
 
 // The lists, one after the other in the span table; Skip has none.
 fn put_lists(out: &mut [u8], at: usize, policy: Policy, text: &[u8], spans: &[u32]) -> usize
-    ensures { λ r. ⌜ Wrote (now (out .entry)) (now (out .exit)) at r (listsText (now (text .entry)) (now (spans .entry)) (numbers policy)) ⌝ }
+    ensures { λ r. ⌜ Wrote (now (out .entry)) (now (out .exit)) at r (listsLines (now (text .entry)) (now (spans .entry)) (numbers policy)) ⌝ }
 {
     if policy.form == cel_policy::SKIP {
         return at;
@@ -189,11 +191,11 @@ fn put_printed(out: &mut [u8], at: usize, printed: &[u8], length: usize) -> usiz
 
 // The canonical text, or that there is none.
 fn put_canonical(out: &mut [u8], at: usize, policy: Policy, text: &[u8], spans: &[u32]) -> usize
-    ensures { λ r. ⌜ Wrote (now (out .entry)) (now (out .exit)) at r (canonicalText (findPrint stringByte (numbers policy) (now (spans .entry)) (now (text .entry)) 8192)) ⌝ }
+    ensures { λ r. ⌜ Wrote (now (out .entry)) (now (out .exit)) at r (canonicalLines (findPrint stringByte (numbers policy) (now (spans .entry)) (now (text .entry)) maxText)) ⌝ }
 {
-    let mut printed = [0u8; 8192];
+    let mut printed = [0u8; MAX_TEXT];
     let print = create_cel_expr::print_policy(policy, text, spans, &mut printed);
-    if print.refusal != 0 {
+    if print.refusal != parser::ACCEPTED {
         return say(
             out,
             at,

@@ -126,10 +126,18 @@ fn put_mapping(out: &mut [u8], at: usize, answer: Answer, found: u32) -> usize
     let name = answer.name;
     let node = Node(answer.place as usize);
     match refusal {
-        7 => put_wrong(out, at, node, found, b".\n", answer.kind, name),
-        8 => put_wrong(out, at, node, found, b" with another name.\n", found, name),
-        9 => put_no_argument(out, at, name),
-        10 => put_no_property(out, at, name),
+        parser::UNEXPECTED_NODE_TYPE => put_wrong(out, at, node, found, b".\n", answer.kind, name),
+        parser::UNEXPECTED_NODE_NAME => put_wrong(
+            out,
+            at,
+            node,
+            found,
+            b" with another name.\n",
+            found,
+            name,
+        ),
+        parser::MISSING_FUNCTION_PARAMETER => put_no_argument(out, at, name),
+        parser::MISSING_OBJECT_PROPERTY => put_no_property(out, at, name),
         _ => put_choice(out, at, refusal),
     }
 }

@@ -11,7 +11,7 @@ use denote.Triple.Clauses.{Lasts, atExit}
 use borrow.Fn.Kinds.{PK, RK, In, Out, Dens, resT, endedOf}
 use Rattle.cel_text.specs.Byte.{stringByte}
 use Rattle.cel_text.specs.Table.{rowAt}
-use Rattle.cel_text.specs.Answer.{treeAnswer, treeTable, treeOver}
+use Rattle.cel_text.specs.Answer.{refusedAt, treeAnswer, treeTable, treeOver}
 use Rattle.cel_policy.specs.Names.{spelling}
 use Rattle.cel_policy.specs.Policy.{numbers}
 use Rattle.cel_policy.specs.Answers.{policyAnswer, policyNodes, policySpans, policyNodesOver, policySpansOver, anyByte, judgement, printAnswer, printOutput, canonicalAnswer}
@@ -25,6 +25,7 @@ use Rattle.parser.specs.declared.Answer.{Answer}
 use Rattle.parser.specs.declared.row.Row.{Row}
 use Rattle.parser.proofs.read_tree
 use Rattle.parser.proofs.read_over as tree_over
+use Rattle.parser.proofs.too_short
 use Rattle.parser.proofs.scan.run_of
 use Rattle.parser.proofs.row.clear
 use Rattle.parser.proofs.row.read_row
@@ -121,6 +122,16 @@ pub tree-over :
 tree-over =
     record {
       one = λ κs a r s v w e f. (tree-says r s (meet (e .0) (f .0)), λ i. (tt, (meet (e .1) (f .1) i, tt)));
+      asks = λ κs a. tt;
+      says = λ κs a r v e. e;
+    }
+
+-- `parser::too_short`
+pub tree-unread :
+    Kept too_short.Kinds.ps too_short.Kinds.r too_short.Reads.Asked too_short.Reads.Post (λ κs a r v. told r ≡ refusedAt 1 0)
+tree-unread =
+    record {
+      one = λ κs a r s v w e f. (tree-says r s (meet e f), refl);
       asks = λ κs a. tt;
       says = λ κs a r v e. e;
     }

@@ -4,6 +4,7 @@ use Prim.Native.Nat.{_≤_}
 use native.Mathlib.Omega.{arith}
 use lib.ListN.{length}
 use Rattle.cel_policy.specs.Policy.{Span, Policy}
+use Rattle.cel_policy.specs.Printed.{maxResponseOnly}
 use Rattle.cel_policy.specs.Mapping.{Mapped}
 use Rattle.ast_mapping.specs.View.{nodeAt}
 use Rattle.ast_mapping.specs.Steps.{mappedAs}
@@ -12,7 +13,7 @@ use Rattle.ast_mapping.proofs.Policies.{root-small, mapped-few}
 use Rattle.ast_mapping.proofs.map_tree.Statement.{statement}
 use Rattle.ast_mapping.proofs.map_tree.Tie as tie
 
-few : (c : tie.After-map-cel-ast) → length (stringsIn (mappedAs (c .before .before .before .before .before .args .nodes .now) (c .map-cel-ast .result))) ≤ 249
+few : (c : tie.After-map-cel-ast) → length (stringsIn (mappedAs (c .before .before .before .before .before .args .nodes .now) (c .map-cel-ast .result))) ≤ maxResponseOnly
 few c =
     let s = c .before .before .before .before .before in
     let w = s .args .nodes .now in

@@ -13,14 +13,14 @@ use Rattle.cel_text.specs.Byte.{Text}
 use Rattle.cel_text.specs.Tree.{Kind, array, object, function, Tree, string, container, Trees, ∅, _▸_∶_, nodes, nodesAll}
 use Rattle.cel_text.specs.Table.{kindNumber}
 use Rattle.cel_text.specs.Reading.{maxNodes}
-use Rattle.cel_text.specs.Laws.Class.{by-test}
+use Rattle.cel_text.specs.Laws.Class.{by-test, both-true}
 use Rattle.cel_policy.specs.Names.{same, spelling, no-certification, certification, no-request-certification, request-certification, certified-request-headers, certified-query-parameters}
 use Rattle.cel_policy.specs.Names.{response-certification, certified-response-headers, response-header-exclusions, headers}
 use Rattle.cel_policy.specs.Policy.{Policy}
 use Rattle.cel_policy.specs.Mapping.{Node, leaf, branch, Nodes, childless, _▹_∶_, nodeOf, nodesOf, Mapped, good, bad, andThen, Typed, Request, Only, first, second, exactlyOne, typed, lookup}
 use Rattle.cel_policy.specs.Mapping.{present, element, elements, stringArray, firstOf, firstChild, headersOf, listOf, responseLists, responsePart, listAt, requestLists, requestOf}
 use Rattle.cel_policy.specs.Mapping.{requestPart, listed, certified, certificationParts, certificationOf, validationArgs, mapping}
-use Rattle.cel_policy.specs.Laws.Shape.{both-true, Shape, skips, certifies}
+use Rattle.cel_policy.specs.Laws.Shape.{Shape, skips, certifies}
 
 -- ---- nodes
 
@@ -40,7 +40,7 @@ module _ {A : Type 0} where
   sizeIf none = 0
   sizeIf (some n) = size n
 
-  size-positive : (n : Node A) → 1 ≤ size n
+  pub size-positive : (n : Node A) → 1 ≤ size n
   size-positive (leaf n a) = lit≤ tt
   size-positive (branch n c name ns) = omega arith
 

@@ -1,13 +1,13 @@
 -- Demand 3 for the entries' answers: what print writes, whatever follows it within the limits, is read with the numbers that were given and the
 -- strings that were printed, and prints to the same bytes again. Assumes nothing.
 use mathlib.Core.Path.{_≡_, refl, sym, ap, _∙_, subst}
-use Prim.Native.Nat.{ℕ, _-_, _≤_}
+use Prim.Native.Nat.{ℕ, _-_, _≤_, _<_}
 use native.Mathlib.Omega.{arith}
 use mathlib.Core.Bool.{Bool}
 use mathlib.Core.List.{_++_}
 use lib.ListN.{length, take, drop, replicate, length-map}
 use lib.Seq.{take-append-seam}
-use borrow.Author.Tests.{le-ltb}
+use borrow.Author.Tests.{lt-ltb, le-ltb}
 use Rattle.cel_text.specs.Byte.{Text, Run, Plain, ascii, stringByte}
 use Rattle.cel_text.specs.Tree.{Tree, nodes, depth}
 use Rattle.cel_text.specs.Table.{Words, nodeWords}
@@ -84,6 +84,14 @@ module _ (S : ℕ → Bool) (plain : Plain S) (low : Low S) where
 pub sized-fits : (t : Text) (r : ℕ) → length t ≤ maxText → length t ≤ r → sized t r ≡ written t
 unfolding sized
 sized-fits t r short room = rw (le-ltb maxText (length t) short, le-ltb r (length t) room)
+
+pub sized-long : (t : Text) (r : ℕ) → maxText < length t → sized t r ≡ unprinted 23 0
+unfolding sized
+sized-long t r long = rw (lt-ltb maxText (length t) long)
+
+pub sized-short : (t : Text) (r : ℕ) → length t ≤ maxText → r < length t → sized t r ≡ unprinted 24 0
+unfolding sized
+sized-short t r short room = rw (le-ltb maxText (length t) short, lt-ltb r (length t) room)
 
 -- what print has written to the output
 abbrev pub writtenText : Counted → Words → Text → (out : Text) → Text

@@ -13,12 +13,11 @@ use lib.Dec.{eqb, lit≤}
 use borrow.Author.Tests.{ltb-true, leb-true, eqb-true}
 use Rattle.cel_text.specs.Byte.{Text}
 use Rattle.cel_text.specs.Table.{Words}
-use Rattle.cel_text.specs.Laws.Class.{by-test}
+use Rattle.cel_text.specs.Laws.Class.{by-test, both-true}
 use Rattle.cel_policy.specs.Policy.{Span, Policy, Counted, counted, stringCount, skip, responseOnly, full, noList, content, strings}
 use Rattle.cel_policy.specs.Spans.{spanTable, spanAt}
 use Rattle.cel_policy.specs.Printed.{printed, aKind, shaped, maxResponseOnly, maxFull}
 use Rattle.cel_policy.specs.Answers.{spanFits, allOf, bytesFit, anyByte, firstFault, Judgement, clean, faulty, unlessFaulty, judgement, sized, findPrint}
-use Rattle.cel_policy.specs.Laws.Shape.{both-true}
 use Rattle.cel_policy.specs.Laws.Readable.{Readable}
 use Rattle.cel_policy.specs.Laws.SpanTable.{Faultless, faultless-clean, read-faultless, print-read}
 

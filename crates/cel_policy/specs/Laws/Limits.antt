@@ -1,17 +1,15 @@
 -- Document 01's cases where 8,192 bytes are printed and where they are not, for every string of the given length. Assumes nothing.
 use mathlib.Core.Path.{_≡_, sym, ap, _∙_}
-use Prim.Native.Nat.{ℕ, _+_, _-_, _≤_, _<_}
+use Prim.Native.Nat.{ℕ, _+_, _-_, _≤_}
 use native.Mathlib.Omega.{arith}
 use mathlib.Core.List.{[], _∷_, _++_, append-assoc, append-nil}
 use mathlib.Core.Option.{none}
 use lib.ListN.{length, drop, replicate, length-append}
 use lib.Seq.{take-length}
 use lib.Dec.{lit≤}
-use borrow.Author.Tests.{lt-ltb}
 use Rattle.cel_text.specs.Byte.{Text, _⧺_, Run, over, ascii, stringByte, bytes}
 use Rattle.cel_text.specs.Abstract.{Ast, str, write, sizeOf, heightOf, Writable}
 use Rattle.cel_text.specs.Table.{Words, nodeWords}
-use Rattle.cel_text.specs.Answer.{maxText}
 use Rattle.cel_text.specs.Laws.Class.{stringByte-plain}
 use Rattle.cel_policy.specs.Names.{spelling}
 use Rattle.cel_policy.specs.Policy.{Span, Policy, Counted, counted, responseOnly, inclusions}
@@ -28,7 +26,7 @@ use Rattle.cel_policy.specs.Laws.Readable.{Fits, Readable}
 use Rattle.cel_policy.specs.Laws.SpanTable.{print-read}
 use Rattle.cel_policy.specs.Laws.Refusals.{found-readable}
 use Rattle.cel_policy.specs.Laws.Ascii.{stringByte-low, ascii-written}
-use Rattle.cel_policy.specs.Laws.Entries.{find-read, counted-strings, sized-fits}
+use Rattle.cel_policy.specs.Laws.Entries.{find-read, counted-strings, sized-fits, sized-long}
 use Rattle.cel_policy.specs.Laws.Canonical.{canonical-read}
 
 -- ResponseOnly with one included header
@@ -38,10 +36,6 @@ oneHeader a = certified none (first (a ∷ []))
 length-oneHeader : (s : Text) → length (printed (oneHeader s)) ≡ 206 + length s
 unfolding printedLength
 length-oneHeader s = length-printed (oneHeader s) ∙ omega arith
-
-pub sized-long : (t : Text) (r : ℕ) → maxText < length t → sized t r ≡ unprinted 23 0
-unfolding sized
-sized-long t r h = rw (lt-ltb maxText (length t) h)
 
 -- the string s, alone in a text, asked for as the one header
 abbrev pub oneAsked : Counted

@@ -4,7 +4,7 @@ use mathlib.Core.Path.{_≡_, refl, ap}
 use Prim.Native.Nat.{ℕ}
 use native.Mathlib.Omega.{arith}
 use mathlib.Core.Bool.{Bool, true, false, cond}
-use mathlib.Core.List.{List, [], _∷_, _++_, map, map-append}
+use mathlib.Core.List.{List, map, map-append}
 use mathlib.Core.Option.{Option, none, some}
 use Rattle.cel_text.specs.Tree.{Kind, array, object, function}
 use Rattle.cel_policy.specs.Policy.{Policy, allStrings, overStrings}
@@ -71,10 +71,6 @@ module _ {B C : Type 0} (f : B → C) where
   exactlyOne-natural both neither node (some a) none = refl
   exactlyOne-natural both neither node (some a) (some b) = refl
 
-map-snoc : {A B : Type 0} (f : A → B) (l : List A) (a : A) → map f (l ++ (a ∷ [])) ≡ map f l ++ (f a ∷ [])
-map-snoc f [] a = refl
-map-snoc f (x ∷ l) a = ap (λ (r : List _). f x ∷ r) (map-snoc f l a)
-
 ruleset past = (overMapped-cond, overOption-cond, overMapped-andThen, andThen-overMapped, exactlyOne-natural)
 
 pub allStrings-over : {A B : Type 0} (f : A → B) (p : Policy A) → allStrings (overStrings f p) ≡ map f (allStrings p)
@@ -104,7 +100,7 @@ module _ {A B : Type 0} (f : A → B) where
   elements-natural : (name : ℕ) (ns : Nodes A) → elements name (overNodes f ns) ≡ overMapped (map f) (elements name ns)
   unfolding elements
   elements-natural name childless = refl
-  elements-natural name (ns ▹ k ∶ n) = simp (past, elements-natural name ns, element-natural name n, map-snoc)
+  elements-natural name (ns ▹ k ∶ n) = simp (past, elements-natural name ns, element-natural name n, map-append)
 
   stringArray-natural : (name : ℕ) (n : Node A) → stringArray name (overNode f n) ≡ overMapped (map f) (stringArray name n)
   unfolding stringArray

@@ -1,13 +1,13 @@
 -- Bytes that stand at a place of a text, and their parts. Assumes nothing.
 use mathlib.Core.Path.{_≡_, refl, sym, ap, _∙_}
-use Prim.Native.Nat.{ℕ, zero, suc, _+_, _-_, _≤_, _<_}
-use native.Mathlib.Nat.{zero-add, suc-add}
+use Prim.Native.Nat.{ℕ, suc, _+_, _-_, _≤_, _<_}
 use native.Mathlib.Numerals.{add-one}
 use native.Mathlib.Omega.{arith}
 use mathlib.Core.List.{[], _∷_, _++_, append-assoc}
 use lib.ListN.{length, take, drop, length-append, length-drop}
-use lib.Seq.{slice, take-append-seam, drop-append-seam, drop-drop, take-nil}
+use lib.Seq.{slice, take-append-seam, drop-append-seam, drop-drop}
 use Rattle.cel_text.specs.Byte.{Text}
+use Rattle.cel_text.specs.Laws.Part.{part-slice}
 
 -- the bytes v stand in the text x, at place p
 pub record Here (x : Text) (p : ℕ) (v : Text) : Type 0 where
@@ -30,11 +30,6 @@ here-right {x} {p} u v h =
 pub here-next : {x : Text} {p : ℕ} {b : ℕ} (v : Text) → Here x p (b ∷ v) → Here x (suc p) v
 here-next {b} v h = rw add-one at (here-right (b ∷ []) v h)
 
-slice-drop : (p n : ℕ) (x : Text) → slice p (p + n) x ≡ take n (drop p x)
-slice-drop zero n x = rw zero-add
-slice-drop (suc p) n [] = rw suc-add (sym (take-nil n))
-slice-drop (suc p) n (b ∷ x) = rw suc-add (slice-drop p n x)
-
 -- bytes before others end inside the text
 pub here-inside : {x : Text} {p : ℕ} (u v : Text) → Here x p (u ++ v) → 0 < length v → p + length u ≤ length x
 here-inside {x} {p} u v h l =
@@ -43,4 +38,6 @@ here-inside {x} {p} u v h l =
 
 -- so a part of the text is those bytes
 pub here-slice : {x : Text} {p : ℕ} (v : Text) → Here x p v → slice p (p + length v) x ≡ v
-here-slice {x} {p} v h = slice-drop p (length v) x ∙ ap (take (length v)) (h .cut) ∙ take-append-seam v (h .rest)
+here-slice {x} {p} v h =
+    let long : p + length v - p ≡ length v = omega arith in
+    sym (part-slice p (p + length v) x) ∙ rw long (ap (take (length v)) (h .cut) ∙ take-append-seam v (h .rest))

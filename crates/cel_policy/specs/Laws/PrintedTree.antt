@@ -21,7 +21,7 @@ use Rattle.cel_policy.specs.Answers.{allOf}
 use Rattle.cel_policy.specs.Printed.{Each, nothing, each, joined, listText, listKey, skipText, requestText, responseText, responseOnlyText, fullText, printed}
 use Rattle.cel_policy.specs.Laws.Each.{each-split, each-of, each-getD, run-of}
 use Rattle.cel_policy.specs.Laws.Written.{seen, seenAll}
-use Rattle.cel_policy.specs.Laws.Shape.{countOf}
+use Rattle.cel_policy.specs.Laws.Shape.{certifiedCount}
 
 -- ---- the values
 
@@ -118,7 +118,7 @@ skeleton v none = 6 + sizeOf v
 skeleton v (some r) = 9
 
 pub size-certified : (v : Ast) (r : Option (Request Text)) (l : Only (List Text))
-    → sizeOf (certifiedValue v r l) ≡ skeleton v r + countOf r l
+    → sizeOf (certifiedValue v r l) ≡ skeleton v r + certifiedCount r l
 size-certified v none l = omega (arith, size-items ε (listed l))
 size-certified v (some r) l = omega (arith, size-items ε (listed l), size-items ε (r .requestHeaders), size-items ε (r .queryParameters))
 

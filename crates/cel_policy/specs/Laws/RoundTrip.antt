@@ -20,7 +20,7 @@ use Rattle.cel_policy.specs.Meaning.{ReadAs}
 use Rattle.cel_policy.specs.Laws.Natural.{unmap, mapping-natural}
 use Rattle.cel_policy.specs.Laws.Places.{here-all}
 use Rattle.cel_policy.specs.Laws.Written.{treeAt, seen, value-written, seen-written, nodes-treeAt, depth-treeAt}
-use Rattle.cel_policy.specs.Laws.Shape.{Shape, skips, certifies, countOf, maxOf, shape-of}
+use Rattle.cel_policy.specs.Laws.Shape.{Shape, skips, certifies, certifiedCount, maxOf, shape-of}
 use Rattle.cel_policy.specs.Laws.PrintedTree.{skipValue, emptyObject, certifiedValue, printed-skip, printed-certified, size-certified, height-certified, mapping-skip, mapping-certified}
 use Rattle.cel_policy.specs.Laws.PrintedTree.{writable-empty, writable-skip, writable-certified}
 
@@ -48,7 +48,7 @@ depth-certified none l = height-certified emptyObject none l (lit≤ tt)
 depth-certified (some r) l = height-certified emptyObject (some r) l (lit≤ tt)
 
 -- 7 nodes with 249 strings, 9 nodes with 247
-nodes-within : (r : Option (Request Text)) (l : Only (List Text)) → countOf r l ≤ maxOf r → sizeOf (certifiedValue emptyObject r l) ≤ maxNodes
+nodes-within : (r : Option (Request Text)) (l : Only (List Text)) → certifiedCount r l ≤ maxOf r → sizeOf (certifiedValue emptyObject r l) ≤ maxNodes
 nodes-within none l h = omega (arith, size-certified emptyObject none l)
 nodes-within (some r) l h = omega (arith, size-certified emptyObject (some r) l)
 

@@ -4,21 +4,21 @@ use mathlib.Core.Logic.{_⊎_, inl, inr, ⊎-elim}
 use Prim.Native.Nat.{ℕ, _+_, _≤_}
 use native.Mathlib.Nat.{suc-ne-zero}
 use native.Mathlib.Omega.{arith}
-use mathlib.Core.Bool.{Bool, true, false, _&&_, _||_, false≢true}
+use mathlib.Core.Bool.{Bool, true, false, _||_}
 use mathlib.Core.List.{List, [], _∷_}
 use mathlib.Core.Option.{Option, none, some}
 use lib.ListN.{length}
 use lib.Dec.{eqb}
 use borrow.Author.Tests.{eqb-true, leb-true, le-leb}
-use Rattle.cel_text.specs.Laws.Class.{by-test}
+use Rattle.cel_text.specs.Laws.Class.{by-test, both-true}
 use Rattle.cel_policy.specs.Policy.{Policy, counted, skip, responseOnly, full, noList, inclusions, exclusions}
 use Rattle.cel_policy.specs.Mapping.{Request, Only, first, second, listKind, listed, certified, skipped}
 use Rattle.cel_policy.specs.Printed.{aKind, shaped, maxResponseOnly, maxFull}
 
 -- how many strings a request part and a response list have, and how many they may have
-abbrev pub countOf : {A : Type 0} → Option (Request A) → Only (List A) → ℕ
-countOf none l = length (listed l)
-countOf (some r) l = length (r .requestHeaders) + length (r .queryParameters) + length (listed l)
+abbrev pub certifiedCount : {A : Type 0} → Option (Request A) → Only (List A) → ℕ
+certifiedCount none l = length (listed l)
+certifiedCount (some r) l = length (r .requestHeaders) + length (r .queryParameters) + length (listed l)
 
 abbrev pub maxOf : {A : Type 0} → Option (Request A) → ℕ
 maxOf none = maxResponseOnly
@@ -27,7 +27,7 @@ maxOf (some r) = maxFull
 -- Skip, or ResponseOnly or Full within their counts
 pub data Shape {A : Type 0} : Policy A → Type 0 where
   skips : Shape skipped
-  certifies : (r : Option (Request A)) (l : Only (List A)) → countOf r l ≤ maxOf r → Shape (certified r l)
+  certifies : (r : Option (Request A)) (l : Only (List A)) → certifiedCount r l ≤ maxOf r → Shape (certified r l)
 
 -- these have a right shape
 aKind-listKind : {A : Type 0} (l : Only (List A)) → aKind (listKind l) ≡ true
@@ -42,10 +42,6 @@ shape-right (certifies (some r) l h) =
     rw (aKind-listKind l) (le-leb (length (r .requestHeaders) + length (r .queryParameters) + length (listed l)) maxFull h)
 
 -- and whatever has a right shape is one of these
-pub both-true : (a b : Bool) → a && b ≡ true → (a ≡ true) × (b ≡ true)
-both-true true b e = (refl, e)
-both-true false b e = absurd (false≢true e)
-
 either-true : (a b : Bool) → a || b ≡ true → (a ≡ true) ⊎ (b ≡ true)
 either-true true b e = inl refl
 either-true false b e = inr e

@@ -1,7 +1,7 @@
 -- Byte classes against each other, and `stringByte` as a plain set. Assumes nothing.
 use mathlib.Core.Path.{_≡_, refl, sym, subst}
 use Prim.Native.Nat.{ℕ, zero, suc}
-use mathlib.Core.Bool.{Bool, true, false, cond, _||_}
+use mathlib.Core.Bool.{Bool, true, false, cond, _&&_, _||_}
 use mathlib.Core.List.{[], _∷_, _++_}
 use lib.Dec.{T, eqb, eqb→eq}
 use Rattle.cel_text.specs.Byte.{Text, Run, over, byte, bytes, blank, identByte, stringByte, comma, Plain}
@@ -20,6 +20,11 @@ is-false false h = refl
 pub by-test {ℓ} : {A : Type ℓ} (P : A → Type 0) (t : Bool) (u v : A) → (t ≡ true → P u) → (t ≡ false → P v) → P (cond t u v)
 by-test P true u v f g = f refl
 by-test P false u v f g = g refl
+
+-- two tests that hold together hold each
+pub both-true : (a b : Bool) → a && b ≡ true → (a ≡ true) × (b ≡ true)
+both-true true b e = (refl, e)
+both-true false b e = (e, cc)
 
 -- two choices that are the same
 pub same-either-way : (b : Bool) (n : ℕ) → cond b n n ≡ n

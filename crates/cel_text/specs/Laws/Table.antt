@@ -5,8 +5,8 @@ use native.Mathlib.Nat.{sub-zero, zero-sub, suc-sub-suc}
 use native.Mathlib.Omega.{arith}
 use mathlib.Core.Bool.{Bool}
 use mathlib.Core.List.{[], _++_, append-nil, append-assoc}
-use lib.ListN.{length, take, drop, replicate, take-append-drop, drop-of-length-le, length-append, length-drop, length-replicate}
-use lib.Seq.{length-take-le, drop-append-le, drop-at}
+use lib.ListN.{length, take, drop, replicate, take-append-drop, length-append, length-drop, length-replicate}
+use lib.Seq.{drop-append-le, drop-at, slice-empty}
 use borrow.Author.Tests.{le-leb}
 use Rattle.cel_text.specs.Byte.{Text, stringByte}
 use Rattle.cel_text.specs.Tree.{Key, unkeyed, Tree, string, container, Trees, ∅, _▸_∶_, nodes, nodesAll}
@@ -37,14 +37,11 @@ row-inside ws n h = rw (le-leb (rowWords * suc n) (length ws) h)
 
 -- ---- what a lent table holds
 
-drop-front : (n : ℕ) (w : Words) → n ≤ length w → drop n (take n w) ≡ []
-drop-front n w h = let less : length (take n w) ≤ n = omega (arith, length-take-le n w h) in drop-of-length-le (take n w) less
-
 -- where the counted words alone are lent, the others stay behind them
-pub hold-front : (l : Left) (n : ℕ) (ws w : Words) → n ≤ length w → hold l n ws (take n w) ++ drop n w ≡ hold l n ws w
-hold-front untouched n ws w h = take-append-drop n w
-hold-front cleared n ws w h = rw (drop-front n w h, append-nil)
-hold-front filled n ws w h = rw (drop-front n w h, append-nil, append-assoc)
+pub hold-front : (l : Left) (n : ℕ) (ws w : Words) → hold l n ws (take n w) ++ drop n w ≡ hold l n ws w
+hold-front untouched n ws w = take-append-drop n w
+hold-front cleared n ws w = rw (slice-empty, append-nil)
+hold-front filled n ws w = rw (slice-empty, append-nil, append-assoc)
 
 drop-zeros : (i n : ℕ) → drop {A = ℕ} i (replicate n 0) ≡ replicate (n - i) 0
 drop-zeros zero n = rw sub-zero

@@ -14,14 +14,14 @@ use Rattle.parser.proofs.read_over.Statement.{statement}
 use Rattle.parser.proofs.read_over.Tie as tie
 use native.Mathlib.Omega.{arith}
 
-refused-requires : tie.Need-refused-requires
-refused-requires c κs = search needs
+too-short-requires : tie.Need-too-short-requires
+too-short-requires c κs = search needs
 
 returns : tie.Need-returns
 returns c =
     let a = c .before .before .before .before .args in
     let h = c .before .if1 .taken in
-    (c .refused .ensures ∙ answer-short (a .text .now) (length (a .table .now)) h, over-short (a .text .now) (a .table .now) h)
+    (c .too-short .ensures ∙ answer-short (a .text .now) (length (a .table .now)) h, over-short (a .text .now) (a .table .now) h)
 
 slice-relend-prefix-find : tie.Need-slice-relend-prefix-find
 slice-relend-prefix-find c = search needs
@@ -72,7 +72,7 @@ pub read-over-spec : {M : Type 1} → statement M
 read-over-spec =
     tie.close
     (tie.spec
-    refused-requires
+    too-short-requires
     returns
     slice-relend-prefix-find
     slice-aggregate-find

@@ -11,14 +11,14 @@ use borrow.Author.Needs.{needs}
 use Rattle.parser.proofs.read_tree.Statement.{statement}
 use Rattle.parser.proofs.read_tree.Tie as tie
 
-refused-requires : tie.Need-refused-requires
-refused-requires c κs = search needs
+too-short-requires : tie.Need-too-short-requires
+too-short-requires c κs = search needs
 
 returns : tie.Need-returns
 returns c =
     let a = c .before .before .before .before .args in
     let h = c .before .if1 .taken in
-    (c .refused .ensures ∙ answer-short (a .text .now) (length (a .table .now)) h, table-short (a .text .now) (a .table .now) h)
+    (c .too-short .ensures ∙ answer-short (a .text .now) (length (a .table .now)) h, table-short (a .text .now) (a .table .now) h)
 
 slice-relend-prefix-clear : tie.Need-slice-relend-prefix-clear
 slice-relend-prefix-clear c = search needs
@@ -49,7 +49,7 @@ pub read-tree-spec : {M : Type 1} → statement M
 read-tree-spec =
     tie.close
     (tie.spec
-    refused-requires
+    too-short-requires
     returns
     slice-relend-prefix-clear
     slice-aggregate-clear

@@ -3,6 +3,7 @@ use mathlib.Core.Path.{sym, subst}
 use lib.ListN.{length}
 use lib.Seq.{length-take-le}
 use Rattle.lines.specs.Fields.{AtMost, Within}
+use Rattle.ask.specs.Room.{mostBytes, mostWords}
 use borrow.Author.Needs.{needs}
 use Rattle.ask.proofs.answers.requested.Statement.{statement}
 use Rattle.ask.proofs.answers.requested.Tie as tie
@@ -95,9 +96,9 @@ returns-6 c =
     let long = length (a .line .now) in
     let u = d .before .before .before .before .before .before .unhex in (
       subst (AtMost (length (u .last .1 .0))) (count .given .1) (u .ensures .1 .1),
-      subst (Within long 4096) (words .given .1) (number-field .ensures) .0,
-      subst (Within long 4096) (words2 .given .1) (number-field2 .ensures) .0,
-      subst (Within long 16384) (c .before .before .output .given .1) (number-field3 .ensures) .0,
+      subst (Within long mostWords) (words .given .1) (number-field .ensures) .0,
+      subst (Within long mostWords) (words2 .given .1) (number-field2 .ensures) .0,
+      subst (Within long mostBytes) (c .before .before .output .given .1) (number-field3 .ensures) .0,
     )
 
 pub requested-spec : {M : Type 1} → statement M

@@ -3,6 +3,7 @@ use mathlib.Core.Path.{sym, subst}
 use lib.ListN.{length}
 use lib.Seq.{length-take-le}
 use Rattle.lines.specs.Fields.{AtMost, Within}
+use Rattle.ask.specs.Room.{mostBytes}
 use borrow.Author.Needs.{needs}
 use Rattle.ask.proofs.prints.requested.Statement.{statement}
 use Rattle.ask.proofs.prints.requested.Tie as tie
@@ -106,7 +107,7 @@ returns-6 c =
     let w = c .before .before .before .before .before .before .before .before .before .before .words-after in (
       subst (AtMost (length (u .last .1 .0))) (count .given .1) (u .ensures .1 .1),
       subst (Within long (length (w .last .1 .1 .0))) (table .given .1) (w .ensures) .0,
-      subst (Within long 16384) (c .before .before .lent .given .1) (number-after .ensures .1) .0,
+      subst (Within long mostBytes) (c .before .before .lent .given .1) (number-after .ensures .1) .0,
     )
 
 pub requested-spec : {M : Type 1} → statement M

@@ -3,7 +3,7 @@ use mathlib.Core.Path.{_≡_, refl, subst}
 use Prim.Native.Nat.{_≤_, _-_}
 use lib.ListN.{length, length-set}
 use native.Mathlib.Omega.{arith}
-use Rattle.ask.specs.Table.{Ends}
+use Rattle.ask.specs.Table.{EndsWithin}
 use borrow.Author.Needs.{needs}
 use Rattle.ask.proofs.table.words.Statement.{statement}
 use Rattle.ask.proofs.table.words.Tie as tie
@@ -54,7 +54,7 @@ add-from : tie.Need-add-from Inv-loop μ-loop
 add-from c =
     let a = c .before .before .before .before .before .before .before .before .before .before .args in
     let word-from = c .before .before .before .before .word-from in
-    omega (arith, subst (Ends (length (a .field .now))) (c .before .before .word .given .1) (word-from .ensures))
+    omega (arith, subst (EndsWithin (length (a .field .now))) (c .before .before .word .given .1) (word-from .ensures))
 
 loop-less : tie.Need-loop-less Inv-loop μ-loop
 loop-less c = omega arith
@@ -64,7 +64,7 @@ loop-again c =
     let a = c .before .before .before .before .before .before .before .before .before .before .args in
     let l = c .before .before .before .before .before .before .loop in
     let word-from = c .before .before .before .before .word-from in
-    let end = subst (Ends (length (a .field .now))) (c .before .before .word .given .1) (word-from .ensures) in
+    let end = subst (EndsWithin (length (a .field .now))) (c .before .before .word .given .1) (word-from .ensures) in
     (omega arith, simp length-set (l .inv .1))
 
 same-length-3 : tie.Need-same-length-3 Inv-loop μ-loop

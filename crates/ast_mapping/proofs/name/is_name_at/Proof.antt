@@ -1,5 +1,5 @@
 -- `name::is_name_at` meets its contract: the bytes between the two places are a part of the text. Assumes nothing.
-use Rattle.parser.proofs.Runs.{part-slice}
+use Rattle.cel_text.specs.Laws.Part.{part-slice}
 use Rattle.ast_mapping.proofs.name.is_name_at.Statement.{statement}
 use Rattle.ast_mapping.proofs.name.is_name_at.Tie as tie
 use native.Mathlib.Omega.{arith}

@@ -1,7 +1,7 @@
 -- `span::string` meets its contract: the part of the text that the span marks. Assumes nothing.
 use lib.Seq.{slice}
 use mathlib.Core.Path.{_∙_}
-use Rattle.parser.proofs.Runs.{part-slice}
+use Rattle.cel_text.specs.Laws.Part.{part-slice}
 use borrow.Author.Needs.{needs}
 use Rattle.create_cel_expr.proofs.span.string.Statement.{statement}
 use Rattle.create_cel_expr.proofs.span.string.Tie as tie

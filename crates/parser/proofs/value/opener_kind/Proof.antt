@@ -1,4 +1,6 @@
 -- `value::opener_kind` meets its contract: each arm knows the byte. Assumes nothing.
+use Rattle.cel_text.specs.Byte.{quote}
+use Rattle.cel_text.specs.Tree.{array, object, function, opener}
 use borrow.Author.Tests.{ne-eqb}
 use Rattle.parser.proofs.value.opener_kind.Statement.{statement}
 use Rattle.parser.proofs.value.opener_kind.Tie as tie
@@ -24,11 +26,10 @@ returns-6 c = rw (c .before .match .keys4, c .if2 .left)
 returns-7 : tie.Need-returns-7
 returns-7 c =
     rw (
-      ne-eqb (c .before .args .b) 123 (c .match .rest .0 .0 .0 .1),
-      ne-eqb (c .before .args .b) 40 (c .match .rest .0 .0 .1),
-      ne-eqb (c .before .args .b) 91 (c .match .rest .0 .1),
-      ne-eqb
-          (c .before .args .b) 34 (c .match .rest .1),
+      ne-eqb (c .before .args .b) (opener object) (c .match .rest .0 .0 .0 .1),
+      ne-eqb (c .before .args .b) (opener function) (c .match .rest .0 .0 .1),
+      ne-eqb (c .before .args .b) (opener array) (c .match .rest .0 .1),
+      ne-eqb (c .before .args .b) quote (c .match .rest .1),
     )
 
 pub opener-kind-spec : {M : Type 1} → statement M

@@ -2,6 +2,7 @@
 use mathlib.Core.Path.{ap}
 use lib.ListN.{replicate}
 use Rattle.cel_text.specs.Byte.{stringByte}
+use Rattle.cel_text.specs.Answer.{maxText}
 use Rattle.cel_policy.specs.Policy.{numbers}
 use Rattle.cel_policy.specs.Answers.{PrintAnswer, findPrint, printAnswer, printOutput}
 use Rattle.cel_policy.specs.Laws.Refusals.{print-gives}
@@ -33,7 +34,7 @@ unfolding printAnswer
 returns c =
     let s = c .before .before .before .before .before .before .before .before .before .before .before .before .before .before in
     let d = c .before .before .before .before .before .before .before .before .before .print-policy in
-    let p = findPrint stringByte (numbers (s .args .policy)) (s .args .spans .now) (s .args .text .now) 8192 in
+    let p = findPrint stringByte (numbers (s .args .policy)) (s .args .spans .now) (s .args .text .now) maxText in
     rw (← text-refused p (d .result .refusal) (ap (λ (a : PrintAnswer). a .refusal) (d .ensures .0)) (c .before .before .before .before .before .before .if1 .taken)) (c .before .before .say .ensures)
 
 slice-aggregate-put-printed : tie.Need-slice-aggregate-put-printed
@@ -57,11 +58,11 @@ returns-2 c =
     let y = w .before .before .before .before in
     let s = y .before in
     let d = w .print-policy in
-    let p = findPrint stringByte (numbers (s .args .policy)) (s .args .spans .now) (s .args .text .now) 8192 in
-    let g = print-gives stringByte (numbers (s .args .policy)) (s .args .spans .now) (s .args .text .now) 8192 in
+    let p = findPrint stringByte (numbers (s .args .policy)) (s .args .spans .now) (s .args .text .now) maxText in
+    let g = print-gives stringByte (numbers (s .args .policy)) (s .args .spans .now) (s .args .text .now) maxText in
     let r = ap (λ (a : PrintAnswer). a .refusal) (d .ensures .0) in
     let l = ap (λ (a : PrintAnswer). a .length) (d .ensures .0) in
-    rw (← text-printed p (replicate 8192 0) (d .last .1 .1 .1 .0) (d .result .refusal) (d .result .length) g r l (d .ensures .1) (v .if1 .left)) (u .put-printed .ensures)
+    rw (← text-printed p (replicate maxText 0) (d .last .1 .1 .1 .0) (d .result .refusal) (d .result .length) g r l (d .ensures .1) (v .if1 .left)) (u .put-printed .ensures)
 
 pub put-canonical-spec : {M : Type 1} → statement M
 put-canonical-spec =

@@ -1,6 +1,6 @@
 -- `policy::put_list` meets its contract: its pieces are those of the definition. Assumes nothing.
 use Rattle.pieces.specs.Laws.{wrote-then}
-use Rattle.report.specs.Policy.{listText}
+use Rattle.report.specs.Policy.{listLines}
 use borrow.Author.Needs.{needs}
 use Rattle.report.proofs.policy.put_list.Statement.{statement}
 use Rattle.report.proofs.policy.put_list.Tie as tie
@@ -15,7 +15,7 @@ same-length : tie.Need-same-length
 same-length c = search needs
 
 returns : tie.Need-returns
-unfolding listText
+unfolding listLines
 returns c =
     wrote-then (c .before .before .before .before .before .before .put-title .ensures) (c .before .before .put-strings .ensures)
 

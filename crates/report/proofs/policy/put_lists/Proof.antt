@@ -1,16 +1,17 @@
 -- `policy::put_lists` meets its contract: of Skip nothing is put, of another form a line end and the lists. Assumes nothing.
+use Rattle.cel_policy.specs.Policy.{skip}
 use borrow.Author.Tests.{eq-eqb, ne-eqb}
 use Rattle.pieces.specs.Laws.{wrote-none, wrote-then}
-use Rattle.report.specs.Policy.{listsText}
+use Rattle.report.specs.Policy.{listsLines}
 use borrow.Author.Needs.{needs}
 use Rattle.report.proofs.policy.put_lists.Statement.{statement}
 use Rattle.report.proofs.policy.put_lists.Tie as tie
 
 returns : tie.Need-returns
-unfolding listsText
+unfolding listsLines
 returns c =
     let s = c .before .before .before .before .before in
-    rw (eq-eqb (s .args .policy .form) 1 (c .if1 .taken)) (wrote-none (s .args .out .now) (s .args .at))
+    rw (eq-eqb (s .args .policy .form) skip (c .if1 .taken)) (wrote-none (s .args .out .now) (s .args .at))
 
 cast-first : tie.Need-cast-first
 cast-first c = search needs
@@ -43,7 +44,7 @@ same-length : tie.Need-same-length
 same-length c = search needs
 
 returns-2 : tie.Need-returns-2
-unfolding listsText
+unfolding listsLines
 returns-2 c =
     let u = c .before .before in
     let v = u .before .before .before .before in
@@ -54,7 +55,7 @@ returns-2 c =
     let f = a .args .policy .form in
     let h = z .if1 .left in
     let l = y .response-list .ensures .0 in
-    rw (ne-eqb f 1 h, ← l) (wrote-then (w .say .ensures) (wrote-then (v .put-request .ensures) (u .put-list .ensures)))
+    rw (ne-eqb f skip h, ← l) (wrote-then (w .say .ensures) (wrote-then (v .put-request .ensures) (u .put-list .ensures)))
 
 pub put-lists-spec : {M : Type 1} → statement M
 put-lists-spec =

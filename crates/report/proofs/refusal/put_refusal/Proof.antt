@@ -1,4 +1,6 @@
 -- `refusal::put_refusal` meets its contract: its pieces are those of a refusal about a byte, or about a node. Assumes nothing.
+use Rattle.cel_text.specs.Reading.{tooMany}
+use Rattle.cel_text.specs.Answer.{faultNumber}
 use borrow.Author.Tests.{le-leb, lt-leb}
 use Rattle.pieces.specs.Laws.{wrote-then}
 use Rattle.report.specs.Refusal.{refusalText}
@@ -42,7 +44,7 @@ returns c =
     let r = b .args .answer .refusal in
     let h = z .if1 .taken in
     let w = y .within .ensures in
-    rw (le-leb r 6 h, ← w) (wrote-then (a .say .ensures) (wrote-then (v .put-reading .ensures) (u .put-byte-place .ensures)))
+    rw (le-leb r (faultNumber tooMany) h, ← w) (wrote-then (a .say .ensures) (wrote-then (v .put-reading .ensures) (u .put-byte-place .ensures)))
 
 kind-requires : tie.Need-kind-requires
 kind-requires c κs = search needs
@@ -73,7 +75,7 @@ returns-2 c =
     let h = z .if1 .left in
     let k = y .kind .ensures in
     let t = v .start .ensures .0 in
-    rw (lt-leb r 6 h, ← k, ← t) (wrote-then (a .say .ensures) (wrote-then (w .put-mapping .ensures) (u .put-node-place .ensures)))
+    rw (lt-leb r (faultNumber tooMany) h, ← k, ← t) (wrote-then (a .say .ensures) (wrote-then (w .put-mapping .ensures) (u .put-node-place .ensures)))
 
 pub put-refusal-spec : {M : Type 1} → statement M
 put-refusal-spec =
