@@ -145,7 +145,7 @@ fn validate_node(text: &[u8], table: &[u32], node: Node, name: u32) -> Check
     if row.kind != expected_kind(name) {
         return Check::Refused(refused(UNEXPECTED_NODE_TYPE, name, node));
     }
-    if name::is_name_at(text, row.from, row.to, name) {
+    if name::is_name(name::part(text, row.from, row.to), name) {
         return Check::Right;
     }
     Check::Refused(refused(UNEXPECTED_NODE_NAME, name, node))

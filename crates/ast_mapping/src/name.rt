@@ -121,14 +121,14 @@ pub(crate) fn is_name(part: &[u8], name: u32) -> bool
     }
 }
 
-// The same of the bytes between two places of the text.
-pub(crate) fn is_name_at(text: &[u8], from: Place, to: Place, name: u32) -> bool
+// The bytes between two places of the text.
+pub(crate) fn part<'a>(text: &'a [u8], from: Place, to: Place) -> &'a [u8]
     requires { ⌜ (from .0 ≤ to .0) × (to .0 ≤ length (now text)) ⌝ }
-    ensures { λ r. ⌜ r ≡ same (slice (from .0) (to .0) (now (text .entry))) (spelling name) ⌝ }
+    ensures { λ r. ⌜ now r ≡ slice (from .0) (to .0) (now (text .entry)) ⌝ }
 {
     let start = from.0;
     let end = to.0;
-    is_name(&text[start..end], name)
+    &text[start..end]
 }
 
 // Writes the name with this number from place `at` on, and answers the place after it.

@@ -24,7 +24,7 @@ pub(crate) fn lookup(text: &[u8], table: &[u32], object: Node, name: u32) -> Fou
         let child = next;
         let row = read_row(table, child);
         next = row.past;
-        if name::is_name_at(text, row.keyfrom, row.keyto, name) {
+        if name::is_name(name::part(text, row.keyfrom, row.keyto), name) {
             found = Found::At(child);
         }
     }

@@ -1,6 +1,7 @@
 -- `mapping::validate_node` meets its contract: the row's kind is tested first, then the name that its ends give. Assumes nothing.
 use mathlib.Core.Path.{_≡_, refl, sym, ap, _∙_}
 use lib.Seq.{slice}
+use Rattle.cel_text.specs.Byte.{Text}
 use Rattle.cel_text.specs.Table.{word}
 use Rattle.cel_policy.specs.Names.{same, spelling}
 use Rattle.cel_policy.specs.Mapping.{bad, typed}
@@ -26,11 +27,14 @@ right c =
     right-kind (s .args .table .now) (s .args .text .now) (expectedKind (s .args .name)) (s .args .name) (s .args .node .0) (s .pre)
     (sym (read (c .before .before .before) .kind) ∙ c .if1 .left ∙ c .before .before .expected-kind .ensures)
 
-spelled : (c : tie.After-is-name-at)
-    → let s = c .before .before .before .before .before .before .before in
+spelled : (c : tie.After-is-name)
+    → let s = c .before .before .before .before .before .before .before .before in
     let w = s .args .table .now in
-    c .is-name-at .result ≡ same (slice (word w (s .args .node .0) 1) (word w (s .args .node .0) 2) (s .args .text .now)) (spelling (s .args .name))
-spelled c = let r = read (c .before .before .before .before) in rw (r .from, r .to) at (c .is-name-at .ensures)
+    c .is-name .result ≡ same (slice (word w (s .args .node .0) 1) (word w (s .args .node .0) 2) (s .args .text .now)) (spelling (s .args .name))
+spelled c =
+    let r = read (c .before .before .before .before .before) in
+    let name = c .before .before .before .before .before .before .before .before .args .name in
+    rw (r .from, r .to) at (c .is-name .ensures ∙ ap (λ (w : Text). same w (spelling name)) (c .before .part .ensures))
 
 read-row-requires : tie.Need-read-row-requires
 read-row-requires c κs = tt
@@ -55,22 +59,25 @@ returns c =
       inside = small-of (c .refused .ensures) (few w x n (s .pre));
     }
 
-is-name-at-requires : tie.Need-is-name-at-requires
-is-name-at-requires c κs =
+part-requires : tie.Need-part-requires
+part-requires c κs =
     let r = read (c .before .before .before) in
     (le-as (r .from) (r .to) (right c .ordered), le-as (r .to) refl (right c .inside))
 
+is-name-requires : tie.Need-is-name-requires
+is-name-requires c κs = tt
+
 returns-2 : tie.Need-returns-2
-returns-2 c = record { is = rw (sym (spelled (c .before)), c .if2 .taken) at (right (c .before .before) .decides); inside = tt }
+returns-2 c = record { is = rw (sym (spelled (c .before)), c .if2 .taken) at (right (c .before .before .before) .decides); inside = tt }
 
 refused-requires-2 : tie.Need-refused-requires-2
 refused-requires-2 c κs = tt
 
 returns-3 : tie.Need-returns-3
 returns-3 c =
-    let s = c .before .before .before .before .before .before .before .before .before in
+    let s = c .before .before .before .before .before .before .before .before .before .before in
     record {
-      is = ap bad (c .refused2 .ensures) ∙ rw (sym (spelled (c .before .before)), c .before .if2 .left) at (right (c .before .before .before) .decides);
+      is = ap bad (c .refused2 .ensures) ∙ rw (sym (spelled (c .before .before)), c .before .if2 .left) at (right (c .before .before .before .before) .decides);
       inside = small-of (c .refused2 .ensures) (few (s .args .table .now) (s .args .text .now) (s .args .node .0) (s .pre));
     }
 
@@ -82,7 +89,8 @@ validate-node-spec =
     expected-kind-requires
     refused-requires
     returns
-    is-name-at-requires
+    part-requires
+    is-name-requires
     returns-2
     refused-requires-2
     returns-3)

@@ -1,8 +1,9 @@
 -- `row::lookup` meets its contract: what was found so far is what the definition finds among the children passed. Assumes nothing.
-use mathlib.Core.Path.{_≡_, refl}
+use mathlib.Core.Path.{_≡_, refl, ap, _∙_}
 use Prim.Native.Nat.{_-_, _<_}
 use native.Mathlib.Nat.{add-sub-cancel}
 use lib.Seq.{slice}
+use Rattle.cel_text.specs.Byte.{Text}
 use Rattle.cel_text.specs.Table.{word}
 use Rattle.cel_policy.specs.Names.{same, spelling}
 use Rattle.ast_mapping.proofs.Counts.{le-as, lt-as}
@@ -51,12 +52,15 @@ onward c =
     let l = c .before .before .before .before in
     omega (arith, entry c .past, later (s .args .table .now) (s .args .text .now) (l .loop .next .0) (kid (c .before) .is))
 
-keyed : (c : tie.After-is-name-at Inv-loop μ-loop)
-    → let s = c .before .before .before .before .before .before .before .before .before .before .before .before in
+keyed : (c : tie.After-is-name Inv-loop μ-loop)
+    → let s = c .before .before .before .before .before .before .before .before .before .before .before .before .before in
     let w = s .args .table .now in
-    let next = c .before .before .before .before .before .before .loop .next .0 in
-    c .is-name-at .result ≡ same (slice (word w next 3) (word w next 4) (s .args .text .now)) (spelling (s .args .name))
-keyed c = let r = entry (c .before .before) in rw (r .keyfrom, r .keyto) at (c .is-name-at .ensures)
+    let next = c .before .before .before .before .before .before .before .loop .next .0 in
+    c .is-name .result ≡ same (slice (word w next 3) (word w next 4) (s .args .text .now)) (spelling (s .args .name))
+keyed c =
+    let r = entry (c .before .before .before) in
+    let name = c .before .before .before .before .before .before .before .before .before .before .before .before .before .args .name in
+    rw (r .keyfrom, r .keyto) at (c .is-name .ensures ∙ ap (λ (w : Text). same w (spelling name)) (c .before .part .ensures))
 
 read-row-requires : tie.Need-read-row-requires Inv-loop μ-loop
 read-row-requires c κs = tt
@@ -74,36 +78,39 @@ loop-holds c =
 read-row-requires-2 : tie.Need-read-row-requires-2 Inv-loop μ-loop
 read-row-requires-2 c κs = tt
 
-is-name-at-requires : tie.Need-is-name-at-requires Inv-loop μ-loop
-is-name-at-requires c κs =
+part-requires : tie.Need-part-requires Inv-loop μ-loop
+part-requires c κs =
     let r = entry (c .before) in
     let k = kid (c .before .before) in
     (le-as (r .keyfrom) (r .keyto) (k .ordered), le-as (r .keyto) refl (k .inside))
 
+is-name-requires : tie.Need-is-name-requires Inv-loop μ-loop
+is-name-requires c κs = tt
+
 loop-less : tie.Need-loop-less Inv-loop μ-loop
-loop-less c = omega (arith, onward (c .before .before .before), c .before .before .before .before .if1 .taken)
+loop-less c = omega (arith, onward (c .before .before .before .before), c .before .before .before .before .before .if1 .taken)
 
 loop-again : tie.Need-loop-again Inv-loop μ-loop
 loop-again c =
-    let b4 = c .before .before .before .before in
-    let l = b4 .before .before .before in
+    let b5 = c .before .before .before .before .before in
+    let l = b5 .before .before .before in
     let s = l .before .before .before .before .before .before in
     let n = s .args .object .0 in
     let k = c .before in
-    rw (add-sub-cancel n 1, entry (c .before .before .before) .past)
-    (hit (s .args .table .now) (s .args .text .now) n (s .pre) (s .args .name) (passed l) (more b4) (k .is-name-at .result) (keyed k) (l .loop .next) refl (c .if2 .taken))
+    rw (add-sub-cancel n 1, entry (c .before .before .before .before) .past)
+    (hit (s .args .table .now) (s .args .text .now) n (s .pre) (s .args .name) (passed l) (more b5) (k .is-name .result) (keyed k) (l .loop .next) refl (c .if2 .taken))
 
 loop-less-2 : tie.Need-loop-less-2 Inv-loop μ-loop
-loop-less-2 c = omega (arith, onward (c .before .before .before), c .before .before .before .before .if1 .taken)
+loop-less-2 c = omega (arith, onward (c .before .before .before .before), c .before .before .before .before .before .if1 .taken)
 
 loop-again-2 : tie.Need-loop-again-2 Inv-loop μ-loop
 loop-again-2 c =
-    let s = c .before .before .before .before .before .before .before .before .before .before .before .before .before in
+    let s = c .before .before .before .before .before .before .before .before .before .before .before .before .before .before in
     let n = s .args .object .0 in
-    let l = c .before .before .before .before .before .before .before in
+    let l = c .before .before .before .before .before .before .before .before in
     let k = c .before in
-    rw (add-sub-cancel n 1, entry (c .before .before .before) .past)
-    (miss (s .args .table .now) (s .args .text .now) n (s .pre) (s .args .name) (passed l) (more (c .before .before .before .before)) (k .is-name-at .result) (keyed k) (c .if2 .left))
+    rw (add-sub-cancel n 1, entry (c .before .before .before .before) .past)
+    (miss (s .args .table .now) (s .args .text .now) n (s .pre) (s .args .name) (passed l) (more (c .before .before .before .before .before)) (k .is-name .result) (keyed k) (c .if2 .left))
 
 returns : tie.Need-returns Inv-loop μ-loop
 returns c =
@@ -121,7 +128,8 @@ lookup-spec =
     add-t11
     loop-holds
     read-row-requires-2
-    is-name-at-requires
+    part-requires
+    is-name-requires
     loop-less
     loop-again
     loop-less-2
