@@ -53,7 +53,7 @@ expectedKind name =
     cond (eqb name 1) function
     (cond (leb 9 name) (cond (leb name 10) array (cond (leb 13 name) (cond (leb name 14) array object) object)) object)
 
--- the struct of a refusal, in document 01's numbers
+-- the struct of a refusal, in the numbers of SPEC.md
 abbrev pub refusalTold : Told → Refusal
 refusalTold r = record { refusal = r .refusal; name = r .name; kind = r .kind; node = r .node .0 }
 

@@ -1,4 +1,4 @@
-// The sixteen names of document 01, by their numbers, and how they are spelled.
+// The sixteen names of the mapping, by their numbers, and how they are spelled.
 ghost use mathlib.Core.Path.{_≡_};
 ghost use Prim.Native.Nat.{_≤_};
 ghost use mathlib.Core.Bool.{_&&_};
