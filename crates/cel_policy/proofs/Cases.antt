@@ -380,7 +380,7 @@ record Number : Type 0 where
 abbrev skipping : Text
 skipping = bytes "default_certification(ValidationArgs{no_certification:Empty{}})"
 
--- “It answers the printed length, or 65,536 plus the refusal.”
+-- “It answers the printed text's length, or the refusal's number plus 65,536.”
 numbers : List Number
 numbers =
     record { text = bytes "f()"; room = 9; number = 65544; writes = [] }

@@ -178,7 +178,7 @@ reprinted S (unread f p) x r = unprinted f 0
 unfoldable pub findCanonical : (ℕ → Bool) → Text → (r : ℕ) → Printing
 findCanonical S x r = reprinted S (findPolicy S nodeWords spanWords x) x r
 
--- “It answers the printed length, or 65,536 plus the refusal.”
+-- “It answers the printed text's length, or the refusal's number plus 65,536.”
 abbrev pub refusalBase : ℕ
 refusalBase = 65536
 
