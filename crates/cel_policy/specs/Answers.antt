@@ -169,7 +169,7 @@ printOutput S k ws x out = output (findPrint S k ws x (length out)) out
 
 -- ---- canonicalise
 
--- “Canonicalising is reading a policy and then printing it.” What was read is printed from the span table that the read left
+-- “Canonicalising is reading a policy, with tables of its own, and then printing it.” What was read is printed from the span table that the read left
 abbrev pub reprinted : (ℕ → Bool) → FoundPolicy → Text → (r : ℕ) → Printing
 reprinted S (policy t p) x r = findPrint S (counted p) (spansHeld hold (policy t p) (replicate spanWords 0)) x r
 reprinted S (unmapped t f) x r = unprinted (f .refusal) 0

@@ -146,8 +146,8 @@ module _ {A : Type 0} where
   firstChild node childless = missingParameter node
   firstChild node (ns ▹ k ∶ n) = good (firstOf n ns)
 
-  -- 4. “Where the key is there, its value should be object 15. Where that has key 16, the value of key 16 is a string array, and the name that goes with its 7
-  -- is 13 or 14. A list object without key 16 is taken as if it were not there.”
+  -- 4. “Where the key is there, its value should be object 15. Where that has key 16, the value of key 16 is a string array, and a 7 of this array goes with
+  -- the name 13 or 14. A list object without key 16 is taken as if it were not there.”
   unfoldable pub headersOf : (name : ℕ) → Option (Node A) → Mapped (Option (List A))
   headersOf name none = good none
   headersOf name (some n) = andThen (stringArray name n) (λ list. good (some list))
@@ -169,8 +169,8 @@ module _ {A : Type 0} where
       andThen (present response-certification (o .number) (lookup response-certification (o .children))) (λ n.
       andThen (typed object ResponseCertification n) responseLists)
 
-  -- 3. “Object 8 has key 9, a string array with the request headers, and then key 10, one with the query parameters. A key that is missing is refused with 10.
-  -- The name that goes with a 7 is 9 or 10.”
+  -- 3. “Object 8 has key 9, a string array with the request headers, and then key 10, one with the query parameters. A key that is missing is refused with
+  -- 10. A 7 of these arrays goes with the name 9 or 10.”
   unfoldable pub listAt : (name : ℕ) → Typed A → Mapped (List A)
   listAt name o = andThen (present name (o .number) (lookup name (o .children))) (stringArray name)
 
