@@ -1,5 +1,5 @@
 // `answers`: what the entries answer on a text, for so many node words, span words and output bytes lent: the numbers of `read_tree`, the
-// words of its rows, and whether every other word is as document 01 says; the same three of `read_policy`, its words being those of the strings'
+// words of its rows, and whether every other word is as it is to be left; the same three of `read_policy`, its words being those of the strings'
 // spans; the host entry's number, the printed bytes in hex, and whether every other byte is as lent.
 ghost use Prim.Native.Nat.{_≤_};
 ghost use lib.ListN.{length};

@@ -10,7 +10,7 @@ use crate::write::put_number;
 use crate::write::put_words;
 use ast_mapping::PolicyAnswer;
 
-// Whether the words after the used ones are as document 01 says: 0 up to the counted words, the others as lent.
+// Whether the words after the used ones are as they are to be left: 0 up to the counted words, the others as lent.
 fn is_clean(table: &[u32], used: usize, most: usize, refusal: u32) -> bool {
     let counted = if refusal == parser::TABLE_TOO_SHORT {
         0

@@ -1,5 +1,5 @@
-// `verdicts`: the line that the judge, the original Rust, writes for a text; and `limit` with the refusal's number where document 01's limits
-// put the text outside what the two are compared on. Words of one sort stand in a line, in the order of the numbers of document 01.
+// `verdicts`: the line that the judge, the original Rust, writes for a text; and `limit` with the refusal's number where a limit
+// puts the text outside what the two are compared on. Words of one sort stand in a line, in the order of their numbers in SPEC.md.
 ghost use Prim.Native.Nat.{_≤_};
 ghost use lib.ListN.{length};
 use crate::room;

@@ -18,7 +18,7 @@ use Rattle.parser.specs.declared.Answer.{Answer as Tree-answer}
 use Rattle.ast_mapping.specs.declared.PolicyAnswer.{PolicyAnswer as Told-answer}
 use Rattle.ast_mapping.specs.View.{stringsOf, nodeAt}
 
--- the struct that the program answers, in document 01's numbers
+-- the struct that the program answers, in the numbers of SPEC.md
 abbrev pub policyTold : Told-answer → PolicyAnswer
 policyTold r = record { answer = told (r .answer); policy = numbers (r .policy) }
 

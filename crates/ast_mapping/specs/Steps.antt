@@ -57,7 +57,7 @@ expectedKind name =
     (cond (leb certified-response-headers name) (cond (leb name response-header-exclusions) array object) object))
     object)
 
--- the struct of a refusal, in document 01's numbers
+-- the struct of a refusal, in the numbers of SPEC.md
 abbrev pub refusalTold : Told → Refusal
 refusalTold r = record { refusal = r .refusal; name = r .name; kind = r .kind; node = r .node .0 }
 

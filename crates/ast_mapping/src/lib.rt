@@ -18,7 +18,7 @@ ghost use Rattle.parser.specs.Found.{told};
 ghost use Rattle.ast_mapping.specs.View.{Held};
 ghost use Rattle.ast_mapping.specs.Spans.{policyTold, TreeMapped};
 
-// Document 01's answer of reading a policy.
+// The answer of reading a policy: the tree's six numbers, and the policy's five.
 pub struct PolicyAnswer {
     pub answer: Answer,
     pub policy: Policy,

@@ -1,4 +1,4 @@
-// From the node table to a policy, or to a refusal of 7 to 16: document 01's four steps, over the nodes' numbers.
+// From the node table to a policy, or to a refusal of 7 to 16: the four steps of SPEC.md, over the nodes' numbers.
 ghost use mathlib.Core.Path.{_≡_};
 ghost use Prim.Native.Nat.{_+_, _≤_};
 ghost use Rattle.cel_text.specs.Tree.{array, object};

@@ -1,4 +1,4 @@
-// The sixteen names of document 01, by their numbers, and how they are spelled.
+// The sixteen names of the mapping, by their numbers, and how they are spelled.
 ghost use mathlib.Core.Path.{_≡_};
 ghost use Prim.Native.Nat.{_≤_};
 ghost use mathlib.Core.Bool.{_&&_};
@@ -74,7 +74,7 @@ const RESPONSE_HEADER_LIST_BYTES: [u8; 18] = *b"ResponseHeaderList";
 
 const HEADERS_BYTES: [u8; 7] = *b"headers";
 
-// Whether a and b hold the same bytes. The loop has no way out, so that it takes many bytes at a time.
+// Whether a and b hold the same bytes. The loop has no early exit, so that it can be vectorised.
 fn equal(a: &[u8], b: &[u8]) -> bool
     ensures { λ r. ⌜ r ≡ same (now (a .entry)) (now (b .entry)) ⌝ }
 {

@@ -1,6 +1,6 @@
--- Document 01's marked cases, the whole list, as one table under one statement. Beside it its cases at the limits of depth and nodes; tables that tell
--- right from wrong where 01 warns of slips, one of texts, one of policies to print; and one each for the lengths lent, the mapping's refusals and the
--- host's number. Each expected number is written out; all are computed.
+-- The examples of SPEC.md that are marked P, as one table under one statement. Beside it those at the limits of depth and nodes; tables of texts and of
+-- policies to print on which a porter easily slips; and one each for the lengths lent, the mapping's refusals and the host's number. Each expected number is
+-- written out; all are computed.
 use mathlib.Core.Path.{_≡_, refl}
 use mathlib.Core.List.{List, [], _∷_, _++_, map}
 use Prim.Native.Nat.{ℕ, zero, suc, _-_}
@@ -135,7 +135,7 @@ longSpans ws = spare 512 ws ++ (7 ∷ 7 ∷ [])
 
 lents : List Lent
 lents =
-    -- "1 leaves them untouched", whichever is too short
+    -- “Refusal 1 leaves both tables as they were lent, even where only one is too short.”
     record {
       text = bytes "f()";
       nodes = 2047;
@@ -156,7 +156,7 @@ lents =
       policyNodes = replicate 2050 7;
       policySpans = replicate 511 7;
     }
-    -- "at least 2,048", "at least 512"
+    -- tables that are just long enough
     ∷ record {
       text = bytes "a";
       nodes = 2048;
@@ -167,7 +167,7 @@ lents =
       policyNodes = replicate 2048 0;
       policySpans = replicate 512 0;
     }
-    -- "Words past those counts are never touched."
+    -- “No word after those that count is touched.”
     ∷ record {
       text = bytes "a";
       nodes = 2050;
@@ -214,7 +214,7 @@ strings : ℕ → Text
 strings zero = []
 strings (suc n) = bytes "\"\"," ++ strings n
 
--- "32 `[` and 32 `]`: a tree; 33: 5 at 32; 32 `[` alone: 4 at 32"; "`[` and 256 times `""` with commas: 6 at 766"
+-- 32 times `[` and 32 times `]`; 33 times each; “32 times `[`”; “`[` and 256 times `""`, with commas”
 limits-hold :
     map (treeAnswer 2048)
     ((replicate 32 91 ++ replicate 32 93) ∷ (replicate 33 91 ++ replicate 33 93) ∷ replicate 32 91 ∷ (bytes "[" ++ (strings 255 ++ bytes "\"\"]")) ∷ [])
@@ -239,7 +239,7 @@ responding x = bytes "no_request_certification:\"\",response_certification:Respo
 
 slips : List Slip
 slips =
-    -- "A lookup takes the last entry with that key."
+    -- “Of several entries with the same key, the last is the one that counts.”
     record {
       text = bytes "default_certification(ValidationArgs{no_certification:\"\",x:[],no_certification:{}})";
       answer = record { answer = aTree 5 3; policy = skips };
@@ -268,7 +268,7 @@ slips =
       answer = record { answer = record { refusal = 15; name = 0; kind = 0; place = 4; nodes = 9; depth = 6 }; policy = nothing };
       spans = [];
     }
-    -- "all request headers, then query parameters, then response headers", whatever their order in the text
+    -- “The strings are numbered from 0 through the request headers, the query parameters and the response headers”, whatever their order in the text
     ∷ record {
       text =
           certifying
@@ -306,7 +306,7 @@ refusals =
     ∷ refusedAs (certifying (bytes "request_certification:RequestCertification{}")) 10 9 0 3 4 4
     ∷ refusedAs (certifying (bytes "request_certification:RequestCertification{certified_request_headers:[]}")) 10 10 0 3 5 5
     ∷ refusedAs (certifying (bytes "no_request_certification:\"\"")) 10 11 0 2 4 3
-    -- "an array (7, kind 2), then its first non-string element refuses (7, kind 1, that element's node)"
+    -- “A node that is no array is refused with 7 and kind 2. Of the elements, the first that is no string is refused with 7 and kind 1.”
     ∷ refusedAs (certifying (bytes "request_certification:RequestCertification{certified_request_headers:\"\"}")) 7 9 2 4 5 4
     ∷ refusedAs (certifying (responding (bytes "certified_response_headers:ResponseHeaderList{headers:[\"a\",{}]}"))) 7 13 1 8 9 7
     ∷ []
@@ -380,7 +380,7 @@ record Number : Type 0 where
 abbrev skipping : Text
 skipping = bytes "default_certification(ValidationArgs{no_certification:Empty{}})"
 
--- "the printed length, or 65,536 plus the refusal"
+-- “It answers the printed text's length, or the refusal's number plus 65,536.”
 numbers : List Number
 numbers =
     record { text = bytes "f()"; room = 9; number = 65544; writes = [] }

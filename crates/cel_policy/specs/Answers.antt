@@ -1,5 +1,5 @@
--- The answers of "read a policy", "print a policy" and "canonicalise" for every input, in document 01's numbers, and what each table and buffer
--- holds afterwards. S is the set of string bytes; the entries' own is stringByte. Assumes nothing.
+-- The answers of reading a policy, printing one and canonicalising, for every input, in the numbers of SPEC.md, and what each table and buffer holds
+-- afterwards. S is the set of string bytes; the entries' own is stringByte. Assumes nothing.
 use Prim.Native.Nat.{ℕ, zero, suc, _+_, _*_}
 use mathlib.Core.Bool.{Bool, true, false, cond, _&&_}
 use mathlib.Core.List.{List, [], _∷_, _++_}
@@ -23,7 +23,7 @@ pub data FoundPolicy : Type 0 where
   unmapped : Tree → Refusal → FoundPolicy
   unread : (refusal place : ℕ) → FoundPolicy
 
--- "read a policy (tree, then mapping)"
+-- “Reading a policy is reading the tree and then mapping it.”
 abbrev pub judged : Tree → Mapped (Policy Span) → FoundPolicy
 judged t (good p) = policy t p
 judged t (bad r) = unmapped t r
@@ -32,11 +32,11 @@ abbrev pub mapTree : Text → Found → FoundPolicy
 mapTree x (tree t q) = judged t (mapping (nodeOf x t 0))
 mapTree x (fault r p) = unread r p
 
--- "1 reading: a lent table is too short"; w and v are the lengths of the node table and the span table
+-- 1: “the node table has fewer than 2,048 words, or the span table fewer than 512”; w and v are their lengths
 abbrev pub findPolicy : (ℕ → Bool) → (w v : ℕ) → Text → FoundPolicy
 findPolicy S w v x = cond (ltb v spanWords) (unread 1 0) (mapTree x (findTree S w x))
 
--- the answer's six numbers and the policy's five. "A refused read returns form and kind none and counts 0."
+-- the answer's six numbers and the policy's five. “A refused read answers five zeros for the policy: form none, list kind none, no strings.”
 pub record PolicyAnswer : Type 0 where
   pub answer : Answer
   pub policy : Counted
@@ -68,7 +68,7 @@ policyNodes x nodes spans = nodesHeld hold (findPolicy stringByte (length nodes)
 unfoldable pub policySpans : Text → (nodes spans : Words) → Words
 policySpans x nodes spans = spansHeld hold (findPolicy stringByte (length nodes) (length spans) x) spans
 
--- reading over two tables: the answer is the same, and the words after the rows and after the strings stay as lent
+-- “`parser::read_over` and `ast_mapping::read_over` answer the same. Where they leave rows or spans, all other words stay as they were lent.”
 unfoldable pub policyNodesOver : Text → (nodes spans : Words) → Words
 policyNodesOver x nodes spans = nodesHeld holdOver (findPolicy stringByte (length nodes) (length spans) x) nodes
 
@@ -77,7 +77,7 @@ policySpansOver x nodes spans = spansHeld holdOver (findPolicy stringByte (lengt
 
 -- ---- print a policy
 
--- a policy given as numbers and a span table, by anyone
+-- “Anyone may have made the policy, the span table and the text that are to be printed.”
 abbrev pub placed : Counted → Words → Policy Span
 placed k ws =
     record {
@@ -88,23 +88,24 @@ placed k ws =
       responseHeaders = spansAt ws (k .responseHeaders) (k .requestHeaders + k .queryParameters);
     }
 
--- "every span in its table, no start after its end, spans inside the text": of string i
+-- “A span fits when both its words are in the table, its start is not after its end, and its end is not after the text's.” That of string i
 unfoldable pub spanFits : Words → Text → ℕ → Bool
 spanFits ws x i = ltb (suc (2 * i)) (length ws) && leb (spanAt ws i .from) (spanAt ws i .to) && leb (spanAt ws i .to) (length x)
 
--- "string bytes only"
+-- each of a list passes a test
 abbrev pub allOf : {A : Type 0} → (A → Bool) → List A → Bool
 allOf test [] = true
 allOf test (a ∷ more) = cond (test a) (allOf test more) false
 
+-- not so, 22: “a string has a byte that is no string byte”
 unfoldable pub bytesFit : (ℕ → Bool) → Words → Text → ℕ → Bool
 bytesFit S ws x i = allOf S (content x (spanAt ws i))
 
--- every byte is a string byte: 22 finds nothing
+-- “`create_cel_expr::print_any` takes every byte for a string byte, so it never gives 22.”
 abbrev pub anyByte : ℕ → Bool
 anyByte b = true
 
--- "the first faulty string, counted from 0": of n strings from string i on
+-- “the first such string”, of n from string i on
 abbrev pub firstFault : (ℕ → Bool) → (n i : ℕ) → Option ℕ
 firstFault fits zero i = none
 firstFault fits (suc n) i = cond (fits i) (firstFault fits n (suc i)) (some i)
@@ -118,7 +119,7 @@ abbrev pub unlessFaulty : (refusal : ℕ) → Option ℕ → Judgement → Judge
 unlessFaulty refusal none next = next
 unlessFaulty refusal (some i) next = faulty refusal i
 
--- "Checks run 20 to 24, each over all strings before the next": 20 to 22
+-- 20 to 22. “Each check is made of all strings before the next check begins.”
 unfoldable pub judgement : (ℕ → Bool) → Counted → Words → Text → Judgement
 judgement S k ws x =
     cond (shaped k)
@@ -130,7 +131,7 @@ pub data Printing : Type 0 where
   written : Text → Printing
   unprinted : (refusal place : ℕ) → Printing
 
--- "23 printed text over 8,192 bytes", "24 output shorter than the text to be written"; r is the output's length
+-- 23: “the printed text has more than 8,192 bytes”; 24: “the output is shorter than the printed text”; r is the output's length
 unfoldable pub sized : Text → (r : ℕ) → Printing
 sized t r = cond (ltb maxText (length t)) (unprinted 23 0) (cond (ltb r (length t)) (unprinted 24 0) (written t))
 
@@ -142,7 +143,7 @@ unlessJudged (faulty r p) next = unprinted r p
 unfoldable pub findPrint : (ℕ → Bool) → Counted → Words → Text → (r : ℕ) → Printing
 findPrint S k ws x r = unlessJudged (judgement S k ws x) (sized (printed (strings x (placed k ws))) r)
 
--- "An answer is four numbers"; "Printing gives the printed length instead, 0 when refused."
+-- “An answer begins with four numbers: refusal, name, kind and place.” “Printing answers the printed length instead, or 0 for a refusal.”
 pub record PrintAnswer : Type 0 where
   pub refusal : ℕ
   pub name : ℕ
@@ -154,7 +155,7 @@ abbrev pub printAnswered : Printing → PrintAnswer
 printAnswered (written t) = record { refusal = 0; name = 0; kind = 0; place = 0; length = length t }
 printAnswered (unprinted r p) = record { refusal = r; name = 0; kind = 0; place = p; length = 0 }
 
--- "After any refusal [...] the output stays as lent; otherwise bytes after the printed text do."
+-- “After a refusal the output is as it was lent. Otherwise the printed text stands at its front, and every byte after it is as it was lent.”
 abbrev pub output : Printing → Text → Text
 output (written t) lent = t ++ drop (length t) lent
 output (unprinted r p) lent = lent
@@ -168,7 +169,7 @@ printOutput S k ws x out = output (findPrint S k ws x (length out)) out
 
 -- ---- canonicalise
 
--- "canonicalise (read, then print)": what was read is printed from the span table that the read left
+-- “Canonicalising is reading a policy, with tables of its own, and then printing it.” What was read is printed from the span table that the read left
 abbrev pub reprinted : (ℕ → Bool) → FoundPolicy → Text → (r : ℕ) → Printing
 reprinted S (policy t p) x r = findPrint S (counted p) (spansHeld hold (policy t p) (replicate spanWords 0)) x r
 reprinted S (unmapped t f) x r = unprinted (f .refusal) 0
@@ -177,7 +178,7 @@ reprinted S (unread f p) x r = unprinted f 0
 unfoldable pub findCanonical : (ℕ → Bool) → Text → (r : ℕ) → Printing
 findCanonical S x r = reprinted S (findPolicy S nodeWords spanWords x) x r
 
--- "gets one number: the printed length, or 65,536 plus the refusal"
+-- “It answers the printed text's length, or the refusal's number plus 65,536.”
 abbrev pub refusalBase : ℕ
 refusalBase = 65536
 

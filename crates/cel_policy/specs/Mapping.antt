@@ -1,6 +1,5 @@
--- Document 01's section "Mapping, in this order": from a tree to a policy, or to a refusal of 7 to 16. The four numbered steps stand at the end,
--- the last first, since each uses the one after it. They know a string by an A, so they depend neither on places nor on the set of string bytes.
--- Assumes nothing.
+-- The mapping, from a tree to a policy, or to a refusal of 7 to 16. Its four numbered steps stand at the end, the last first, since each uses the one after it.
+-- They know a string by an A, so they depend neither on places nor on the set of string bytes. Assumes nothing.
 use Prim.Native.Nat.{ℕ, suc, _+_}
 use mathlib.Core.Bool.{cond}
 use mathlib.Core.List.{List, [], _∷_, _++_}
@@ -34,7 +33,7 @@ keyBytes x unkeyed = []
 keyBytes x (key from to) = slice from to x
 
 abbrev mutual
-  -- the tree t of the text x, whose number is n. "Nodes stand in the order of their openers"
+  -- the tree t of the text x, whose number is n. “Nodes are numbered from 0, in the order of their openers.”
   pub nodeOf : Text → Tree → (n : ℕ) → Node Span
   nodeOf x (string o to q) n = leaf n (record { from = suc o; to = to })
   nodeOf x (container c o from to q ts) n = branch n c (slice from to x) (nodesOf x ts (suc n))
@@ -44,7 +43,8 @@ abbrev mutual
   nodesOf x ∅ n = childless
   nodesOf x (ts ▸ k ∶ t) n = nodesOf x ts n ▹ keyBytes x k ∶ nodeOf x t (n + nodesAll ts)
 
--- a refusal of 7 to 16: "refusal, name, expected kind, place", the place being a node's number
+-- a refusal of 7 to 16. “An answer begins with four numbers: refusal, name, kind and place.” “For 7 to 16 the place is a node's number, for 21 and 22 a
+-- string's.”
 pub record Refusal : Type 0 where
   pub refusal : ℕ
   pub name : ℕ
@@ -60,23 +60,23 @@ abbrev pub andThen : {B C : Type 0} → Mapped B → (B → Mapped C) → Mapped
 andThen (good b) next = next b
 andThen (bad r) next = bad r
 
--- "7 UnexpectedNodeType (kind = expected)"
+-- 7: of name and kind “the one expected”, and “the node of the wrong kind”
 abbrev pub unexpectedType : {B : Type 0} → (name kind node : ℕ) → Mapped B
 unexpectedType name kind node = bad (record { refusal = 7; name = name; kind = kind; node = node })
 
--- "8 UnexpectedNodeName"
+-- 8: the name expected, and “the node with the wrong name”
 abbrev pub unexpectedName : {B : Type 0} → (name node : ℕ) → Mapped B
 unexpectedName name node = bad (record { refusal = 8; name = name; kind = 0; node = node })
 
--- "9 MissingFunctionParameter": name 2
+-- 9: name 2, and “function 1, which is node 0”
 abbrev pub missingParameter : {B : Type 0} → (node : ℕ) → Mapped B
 missingParameter node = bad (record { refusal = 9; name = ValidationArgs; kind = 0; node = node })
 
--- "10 MissingObjectProperty": the property, the object's node
+-- 10: “the key that is missing”, and “the object that lacks it”
 abbrev pub missingProperty : {B : Type 0} → (name node : ℕ) → Mapped B
 missingProperty name node = bad (record { refusal = 10; name = name; kind = 0; node = node })
 
--- "11, 12 Extraneous, Missing", and so 13 to 16: no name, the object's node
+-- 11 to 16: no name, and the object whose keys are judged
 abbrev pub wrongProperties : {B : Type 0} → (refusal node : ℕ) → Mapped B
 wrongProperties refusal node = bad (record { refusal = refusal; name = 0; kind = 0; node = node })
 
@@ -94,7 +94,8 @@ pub record Request (A : Type 0) : Type 0 where
 pub data Only (B : Type 0) : Type 0 where
   first second : B → Only B
 
--- "both 11, neither 12", "both 13, neither 14", "Both lists 15, neither 16": exactly one, in the object whose node is given
+-- exactly one of two, in the object whose node is given: else “both are refused with 11, neither with 12”, “both are refused with 13, neither with 14”, or
+-- “After both, two lists are refused with 15, none with 16.”
 abbrev pub exactlyOne : {B : Type 0} → (both neither node : ℕ) → Option B → Option B → Mapped (Only B)
 exactlyOne both neither node none none = wrongProperties neither node
 exactlyOne both neither node none (some b) = good (second b)
@@ -102,7 +103,7 @@ exactlyOne both neither node (some a) none = good (first a)
 exactlyOne both neither node (some a) (some b) = wrongProperties both node
 
 module _ {A : Type 0} where
-  -- "For a typed node, kind (7) comes before name (8)."
+  -- “Where a node should be an object or a function with a given name, another kind is refused with 7, and then another name with 8.”
   unfoldable pub typed : Kind → (name : ℕ) → Node A → Mapped (Typed A)
   typed c name (leaf n a) = unexpectedType name (kindNumber c) n
   typed c name (branch n d bytes ns) =
@@ -110,17 +111,17 @@ module _ {A : Type 0} where
       (cond (same bytes (spelling name)) (good (record { number = n; children = ns })) (unexpectedName name n))
       (unexpectedType name (kindNumber c) n)
 
-  -- "A lookup takes the last entry with that key."
+  -- “Of several entries with the same key, the last is the one that counts.”
   unfoldable pub lookup : (name : ℕ) → Nodes A → Option (Node A)
   lookup name childless = none
   lookup name (ns ▹ k ∶ n) = cond (same k (spelling name)) (some n) (lookup name ns)
 
-  -- a key that must be there: "missing: 10"
+  -- a key that must be there. “A key that is missing is refused with 10.”
   unfoldable pub present : (name node : ℕ) → Option (Node A) → Mapped (Node A)
   present name node none = missingProperty name node
   present name node (some n) = good n
 
-  -- "its first non-string element refuses (7, kind 1, that element's node)"
+  -- “Of the elements, the first that is no string is refused with 7 and kind 1.”
   unfoldable pub element : (name : ℕ) → Node A → Mapped A
   element name (leaf n a) = good a
   element name (branch n c bytes ns) = unexpectedType name stringKind n
@@ -129,7 +130,7 @@ module _ {A : Type 0} where
   elements name childless = good []
   elements name (ns ▹ k ∶ n) = andThen (elements name ns) (λ before. andThen (element name n) (λ a. good (before ++ (a ∷ []))))
 
-  -- "A string array: an array (7, kind 2), then"
+  -- “A string array is an array whose elements are strings. A node that is no array is refused with 7 and kind 2.”
   unfoldable pub stringArray : (name : ℕ) → Node A → Mapped (List A)
   stringArray name (leaf n a) = unexpectedType name (kindNumber array) n
   stringArray name (branch n array bytes ns) = elements name ns
@@ -145,8 +146,8 @@ module _ {A : Type 0} where
   firstChild node childless = missingParameter node
   firstChild node (ns ▹ k ∶ n) = good (firstOf n ns)
 
-  -- 4. "For key 13, then key 14, where present: object 15; its key 16, where present, a string array whose type errors carry name 13 or 14.
-  -- A list object without key 16 counts as absent."
+  -- 4. “Where the key is there, its value should be object 15. Where that has key 16, the value of key 16 is a string array, and a 7 of this array goes with
+  -- the name 13 or 14. A list object without key 16 is taken as if it were not there.”
   unfoldable pub headersOf : (name : ℕ) → Option (Node A) → Mapped (Option (List A))
   headersOf name none = good none
   headersOf name (some n) = andThen (stringArray name n) (λ list. good (some list))
@@ -155,20 +156,21 @@ module _ {A : Type 0} where
   listOf name none = good none
   listOf name (some n) = andThen (typed object ResponseHeaderList n) (λ o. headersOf name (lookup headers (o .children)))
 
-  -- "Both lists 15, neither 16."
+  -- “In object 12, key 13 is judged, and then key 14.” “After both, two lists are refused with 15, none with 16.”
   unfoldable pub responseLists : Typed A → Mapped (Only (List A))
   responseLists o =
       andThen (listOf certified-response-headers (lookup certified-response-headers (o .children))) (λ included.
       andThen (listOf response-header-exclusions (lookup response-header-exclusions (o .children))) (λ excluded.
       exactlyOne 15 16 (o .number) included excluded))
 
-  -- "Key 11 (missing: 10, place: node of object 5) is object 12."
+  -- “Object 5 has key 11, or is refused with 10, and its value should be object 12.”
   unfoldable pub responsePart : Typed A → Mapped (Only (List A))
   responsePart o =
       andThen (present response-certification (o .number) (lookup response-certification (o .children))) (λ n.
       andThen (typed object ResponseCertification n) responseLists)
 
-  -- 3. "Else 7 is object 8; key 9 (missing: 10) is a string array; then key 10 likewise; their type errors carry name 9 or 10."
+  -- 3. “Object 8 has key 9, a string array with the request headers, and then key 10, one with the query parameters. A key that is missing is refused with
+  -- 10. A 7 of these arrays goes with the name 9 or 10.”
   unfoldable pub listAt : (name : ℕ) → Typed A → Mapped (List A)
   listAt name o = andThen (present name (o .number) (lookup name (o .children))) (stringArray name)
 
@@ -178,17 +180,17 @@ module _ {A : Type 0} where
       andThen (listAt certified-query-parameters o) (λ qs.
       good (some (record { requestHeaders = hs; queryParameters = qs }))))
 
-  -- "Only 6: no request part, value unchecked."
+  -- “With key 6 there is no request part, whatever stands there. With key 7 its value should be object 8.”
   unfoldable pub requestOf : Only (Node A) → Mapped (Option (Request A))
   requestOf (first n) = good none
   requestOf (second n) = andThen (typed object RequestCertification n) requestLists
 
-  -- "In it keys 6 and 7: both 13, neither 14."
+  -- “Object 5 has either key 6 or key 7: both are refused with 13, neither with 14.”
   unfoldable pub requestPart : Typed A → Mapped (Option (Request A))
   requestPart o =
       andThen (exactlyOne 13 14 (o .number) (lookup no-request-certification (o .children)) (lookup request-certification (o .children))) requestOf
 
-  -- the response list and its kind: key 13 has the inclusions, key 14 the exclusions
+  -- the response list and its kind. “The list of key 13 is inclusions, that of key 14 exclusions.”
   abbrev pub listKind : Only (List A) → ℕ
   listKind (first l) = inclusions
   listKind (second l) = exclusions
@@ -197,7 +199,7 @@ module _ {A : Type 0} where
   listed (first l) = l
   listed (second l) = l
 
-  -- ResponseOnly or Full
+  -- “The policy is ResponseOnly without a request part, and Full with one.”
   abbrev pub certified : Option (Request A) → Only (List A) → Policy A
   certified none l = record { form = responseOnly; kind = listKind l; requestHeaders = []; queryParameters = []; responseHeaders = listed l }
   certified (some r) l =
@@ -210,17 +212,18 @@ module _ {A : Type 0} where
   unfoldable pub certificationParts : Typed A → Mapped (Policy A)
   certificationParts o = andThen (requestPart o) (λ r. andThen (responsePart o) (λ l. good (certified r l)))
 
-  -- 2. "Only 3: Skip, its value unchecked. Else 4 is object 5."
+  -- 2. “With key 3 the policy is Skip, whatever stands there. With key 4 its value should be object 5, and steps 3 and 4 follow.”
   unfoldable pub certificationOf : Only (Node A) → Mapped (Policy A)
   certificationOf (first n) = good skipped
   certificationOf (second n) = andThen (typed object Certification n) certificationParts
 
-  -- "Keys 3 and 4: both 11, neither 12."
+  -- “Object 2 has either key 3 or key 4: both are refused with 11, neither with 12.”
   unfoldable pub validationArgs : Typed A → Mapped (Policy A)
   validationArgs o =
       andThen (exactlyOne 11 12 (o .number) (lookup no-certification (o .children)) (lookup certification (o .children))) certificationOf
 
-  -- 1. "Root: function 1. No argument: 9. First argument: object 2; further ones ignored."
+  -- 1. “The root should be function 1. A function 1 without an argument is refused with 9. Its first argument should be object 2, and no other argument is
+  -- looked at.”
   unfoldable pub mapping : Node A → Mapped (Policy A)
   mapping root =
       andThen (typed function default-certification root) (λ f.

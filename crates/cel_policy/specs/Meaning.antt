@@ -1,4 +1,4 @@
--- What a text means: the policy as which it is read. S is the set of string bytes. Assumes nothing.
+-- What a text means: the policy as which it is read. “Reading a policy is reading the tree and then mapping it.” S is the set of string bytes. Assumes nothing.
 use mathlib.Core.Path.{_≡_}
 use Prim.Native.Nat.{ℕ}
 use mathlib.Core.Bool.{Bool}

@@ -1,4 +1,4 @@
--- The sixteen names of document 01's section "Mapping", by their numbers. Assumes nothing.
+-- The names that the mapping knows, by their numbers. Assumes nothing.
 use Prim.Native.Nat.{ℕ}
 use mathlib.Core.Bool.{Bool, true, false, _&&_}
 use mathlib.Core.List.{List, [], _∷_}
@@ -13,7 +13,7 @@ same [] (b ∷ bs) = false
 same (a ∷ more) [] = false
 same (a ∷ more) (b ∷ bs) = eqb a b && same more bs
 
--- "Names are numbered: 1 default_certification, 2 ValidationArgs", and so on; the number 0 names nothing
+-- “The names of the mapping are numbered from 1 to 16.” The number 0 names nothing
 abbrev pub spellings : List Text
 spellings =
     []

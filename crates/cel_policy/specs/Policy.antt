@@ -1,5 +1,4 @@
--- Policies. "A policy is a form (none, Skip, ResponseOnly, Full), the response list's kind (none, inclusions, exclusions) and the counts of the
--- three lists; the span table and the text give the strings." Assumes nothing.
+-- “A policy has a form, a list kind and three lists of strings: request headers, query parameters and response headers.” Assumes nothing.
 use Prim.Native.Nat.{ℕ, _+_}
 use mathlib.Core.List.{List, _++_, map}
 use lib.ListN.{length}
@@ -7,7 +6,7 @@ use lib.Seq.{slice}
 use Rattle.cel_text.specs.Byte.{Text}
 use Rattle.cel_policy.specs.declared.Policy.{Policy as Numbers}
 
--- the forms
+-- “The forms are none (0), Skip (1), ResponseOnly (2) and Full (3).”
 abbrev pub noForm : ℕ
 noForm = 0
 
@@ -20,7 +19,7 @@ responseOnly = 2
 abbrev pub full : ℕ
 full = 3
 
--- the response list's kinds
+-- “The list kinds are none (0), inclusions (1) and exclusions (2).”
 abbrev pub noList : ℕ
 noList = 0
 
@@ -30,13 +29,13 @@ inclusions = 1
 abbrev pub exclusions : ℕ
 exclusions = 2
 
--- a string's place in the text: "start and end of each string"
+-- where a string stands in the text. “The ends of some bytes are the place of the first and the place after the last.”
 pub record Span : Type 0 where
   pub from : ℕ
   pub to : ℕ
 
--- a policy whose strings are known by an A: by their bytes, or by their places. "Two policies are equal when form, kind and the three lists of
--- strings, byte by byte, are equal; places don't count": as values of Policy Text.
+-- a policy whose strings are known by an A: by their bytes, or by their places. “Two policies are equal when they have the same form, the same list kind and,
+-- list by list, strings of the same bytes.” So they are as values of Policy Text.
 pub record Policy (A : Type 0) : Type 0 where
   pub form : ℕ
   pub kind : ℕ
@@ -44,7 +43,7 @@ pub record Policy (A : Type 0) : Type 0 where
   pub queryParameters : List A
   pub responseHeaders : List A
 
--- a policy as numbers: "a form [...], the response list's kind [...] and the counts of the three lists"
+-- “A policy is handed over as five numbers: its form, its list kind, and how many strings each list has.”
 pub record Counted : Type 0 where
   pub form : ℕ
   pub kind : ℕ
@@ -62,7 +61,7 @@ counted p =
       responseHeaders = length (p .responseHeaders);
     }
 
--- "A refused read returns form and kind none and counts 0."
+-- “A refused read answers five zeros for the policy: form none, list kind none, no strings.”
 abbrev pub noPolicy : Counted
 noPolicy = record { form = noForm; kind = noList; requestHeaders = 0; queryParameters = 0; responseHeaders = 0 }
 
@@ -70,7 +69,8 @@ noPolicy = record { form = noForm; kind = noList; requestHeaders = 0; queryParam
 abbrev pub stringCount : Counted → ℕ
 stringCount k = k .requestHeaders + k .queryParameters + k .responseHeaders
 
--- "all request headers, then query parameters, then response headers, each list in its own text order"
+-- “The strings are numbered from 0 through the request headers, the query parameters and the response headers. Each list keeps the order in which its strings
+-- stand in the array.”
 abbrev pub allStrings : {A : Type 0} → Policy A → List A
 allStrings p = p .requestHeaders ++ (p .queryParameters ++ p .responseHeaders)
 
@@ -85,7 +85,7 @@ overStrings f p =
       responseHeaders = map f (p .responseHeaders);
     }
 
--- "the span table and the text give the strings"
+-- “Its strings are then the bytes of a text between the ends that a span table holds.”
 abbrev pub content : Text → Span → Text
 content x s = slice (s .from) (s .to) x
 

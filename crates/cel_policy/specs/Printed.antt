@@ -1,5 +1,5 @@
--- The printed text, as `create_cel_expr` writes it, with its length, and when a policy is printable: document 01's section "Printed text and its
--- length". S is the set of string bytes. Assumes nothing.
+-- The printed text, which is that of the Rust's `create_cel_expr`, with its length, and when a policy is printable. S is the set of string bytes. Assumes
+-- nothing.
 use mathlib.Core.Path.{_≡_}
 use Prim.Native.Nat.{ℕ, _+_, _*_, _-_, _≤_}
 use mathlib.Core.Bool.{Bool, true, cond, _&&_, _||_}
@@ -15,12 +15,12 @@ abbrev pub joined : Text → List Text → Text
 joined s [] = s
 joined s (t ∷ more) = s ⧺ bytes "\",\"" ⧺ joined t more
 
--- a list of strings: nothing, or the strings so joined between quotes
+-- “LIST stands for a list: its strings, each between quotes, with commas between them.”
 abbrev pub listText : List Text → Text
 listText [] = []
 listText (s ∷ more) = bytes "\"" ⧺ joined s more ⧺ bytes "\""
 
--- the key of the response list
+-- “KEY is `certified_response_headers` for inclusions and `response_header_exclusions` for exclusions.”
 abbrev pub listKey : ℕ → Text
 listKey kind = cond (eqb kind exclusions) (bytes "response_header_exclusions") (bytes "certified_response_headers")
 
@@ -56,7 +56,7 @@ responseOnlyText p = certifyingHead ⧺ bytes "no_request_certification:Empty{},
 unfoldable pub fullText : Policy Text → Text
 fullText p = certifyingHead ⧺ requestText p ⧺ responseText p ⧺ certifyingTail
 
--- "Bytes as `create_cel_expr` writes them, no blanks": of a policy whose form is not none
+-- “The printed text of a policy has no blanks.” Of a policy whose form is not none
 unfoldable pub printed : Policy Text → Text
 printed p = cond (eqb (p .form) skip) skipText (cond (eqb (p .form) responseOnly) (responseOnlyText p) (fullText p))
 
@@ -65,37 +65,39 @@ abbrev pub total : List Text → ℕ
 total [] = 0
 total (s ∷ more) = length s + total more
 
--- "A list of n strings with L bytes together adds L + 3n − 1, or 0 when n is 0."
+-- “A list of n strings that have L bytes in all takes L + 3n − 1 bytes, and an empty list none.”
 abbrev pub listLength : List Text → ℕ
 listLength [] = 0
 listLength (s ∷ more) = total (s ∷ more) + 3 * length (s ∷ more) - 1
 
--- "Skip: 63 bytes. ResponseOnly: 204 plus its list. Full: 274 plus its three lists."
+-- “The text of Skip has 63 bytes, that of ResponseOnly 204 and its list, that of Full 274 and its three lists.”
 unfoldable pub printedLength : Policy Text → ℕ
 printedLength p =
     cond (eqb (p .form) skip) 63
     (cond (eqb (p .form) responseOnly) (204 + listLength (p .responseHeaders))
     (274 + (listLength (p .requestHeaders) + (listLength (p .queryParameters) + listLength (p .responseHeaders)))))
 
--- the nodes and the depth of a printed text's tree
+-- the nodes and the depth of a printed text's tree. “Read again, Skip has 3 nodes, ResponseOnly 7 and its strings, Full 9 and its strings. The depth is 3 for
+-- Skip and 6 for the others.”
 unfoldable pub printedNodes : Policy Text → ℕ
 printedNodes p = cond (eqb (p .form) skip) 3 (cond (eqb (p .form) responseOnly) 7 9 + length (allStrings p))
 
 unfoldable pub printedDepth : Policy Text → ℕ
 printedDepth p = cond (eqb (p .form) skip) 3 6
 
--- "the other forms a kind"
+-- inclusions or exclusions
 abbrev pub aKind : ℕ → Bool
 aKind kind = eqb kind inclusions || eqb kind exclusions
 
--- "strings in all at most 249 (ResponseOnly) or 247 (Full)"
+-- “With 249 or 247 strings the printed text has 256 nodes.”
 abbrev pub maxResponseOnly : ℕ
 maxResponseOnly = 249
 
 abbrev pub maxFull : ℕ
 maxFull = 247
 
--- "form not none, Skip has kind none and no strings, the other forms a kind, ResponseOnly no request headers or query parameters"
+-- “Skip goes with the list kind none and no strings.” “ResponseOnly goes with inclusions or exclusions, no request headers, no query parameters and at most 249
+-- strings.” “Full goes with inclusions or exclusions and at most 247 strings.” “A policy of any other form is refused with 20.”
 unfoldable pub shaped : Counted → Bool
 shaped k =
     cond (eqb (k .form) skip) (eqb (k .kind) noList && eqb (stringCount k) 0)
@@ -108,12 +110,12 @@ pub data Each {A : Type 0} (P : A → Type 0) : List A → Type 0 where
   each : {a : A} {more : List A} → P a → Each P more → Each P (a ∷ more)
 
 module _ (S : ℕ → Bool) where
-  -- printable but for its length: the shape is right, "string bytes only"
+  -- printable but for its length: the numbers go together, and the strings have string bytes only
   pub record Proper (p : Policy Text) : Type 0 where
     pub shape : shaped (counted p) ≡ true
     pub stringBytes : Each (Run S) (allStrings p)
 
-  -- "Printable": and "8,192 bytes at most"
+  -- “A policy is printable when it is refused with none of 20 to 23.”
   pub record Printable (p : Policy Text) : Type 0 where
     pub proper : Proper p
     pub short : length (printed p) ≤ maxText

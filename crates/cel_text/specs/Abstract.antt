@@ -19,12 +19,13 @@ mutual
     ε : Asts
     _▪_∶_ : Asts → (key : Text) → Ast → Asts
 
--- what is written before a child
+-- what is written before a child's value. “The children of an array or a function are values; those of an object are entries, each a key and a value.”
 abbrev pub label : Kind → (key : Text) → Text
 label array k = []
 label object k = k ++ colon ∷ []
 label function k = []
 
+-- “A child is separated from the one before it by a comma.”
 abbrev pub separator : Asts → Text
 separator ε = []
 separator (more ▪ k ∶ a) = comma ∷ []
@@ -40,7 +41,7 @@ abbrev mutual
   writeAll (more ▪ k ∶ a) c = writeAll more c ++ (separator more ++ (label c k ++ write a))
 
 abbrev mutual
-  -- how many nodes it has
+  -- how many nodes it has. “Each value is a node.”
   pub sizeOf : Ast → ℕ
   sizeOf (str i) = 1
   sizeOf (con c name more) = suc (sizeAll more)
@@ -50,7 +51,8 @@ abbrev mutual
   sizeAll (more ▪ k ∶ a) = sizeAll more + sizeOf a
 
 abbrev mutual
-  -- how deep it is
+  -- how deep it is. “The depth of a string is 0, that of a container without children 1, and that of any other container 1 more than the greatest depth of its
+  -- children.”
   pub heightOf : Ast → ℕ
   heightOf (str i) = 0
   heightOf (con c name more) = suc (heightAll more)
@@ -59,12 +61,12 @@ abbrev mutual
   heightAll ε = 0
   heightAll (more ▪ k ∶ a) = max (heightAll more) (heightOf a)
 
--- direct children
+-- “how many children it has”
 abbrev pub countOf : Asts → ℕ
 countOf ε = 0
 countOf (more ▪ k ∶ a) = suc (countOf more)
 
--- what a name and a key may be
+-- what a name and a key may be. “An identifier is a run of identifier bytes, and may be empty.”
 abbrev pub GoodName : Kind → Text → Type 0
 GoodName array name = name ≡ []
 GoodName object name = Identifier name
@@ -77,7 +79,7 @@ GoodKey function k = k ≡ []
 
 module _ (S : ℕ → Bool) where
   abbrev mutual
-    -- what may be written: names and keys are identifiers, strings have string bytes
+    -- what may be written: names and keys are identifiers. “A string's content is its run of string bytes.”
     pub Writable : Ast → Type 0
     Writable (str i) = Run S i
     Writable (con c name more) = GoodName c name × WritableAll more c

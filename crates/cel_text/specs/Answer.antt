@@ -1,4 +1,4 @@
--- The answer of "read a tree" for every text and every table length, in document 01's numbers. S is the set of string bytes. Assumes nothing.
+-- The answer of reading a tree, for every text and every table length, in the numbers of SPEC.md. S is the set of string bytes. Assumes nothing.
 use Prim.Native.Nat.{ℕ}
 use mathlib.Core.Bool.{Bool, cond}
 use mathlib.Core.List.{[]}
@@ -9,11 +9,12 @@ use Rattle.cel_text.specs.Tree.{Tree, nodes, depth}
 use Rattle.cel_text.specs.Reading.{Fault, syntax, tooDeep, tooMany, Outcome, accepted, refused, read, limits}
 use Rattle.cel_text.specs.Table.{Words, Left, rows, nodeWords, nodesLeft, hold, holdOver}
 
--- "Text 8,192 bytes"
+-- the longest text: 2 is given where “the text has more than 8,192 bytes”
 abbrev pub maxText : ℕ
 maxText = 8192
 
--- "An answer is four numbers: refusal, name, expected kind, place"; "Beside it stand nodes and greatest depth"
+-- “An answer begins with four numbers: refusal, name, kind and place.” “After them, reading answers the nodes and the depth of the tree, or 0 and 0 for
+-- refusals 1 to 6.”
 pub record Answer : Type 0 where
   pub refusal : ℕ
   pub name : ℕ
@@ -22,7 +23,7 @@ pub record Answer : Type 0 where
   pub nodes : ℕ
   pub depth : ℕ
 
--- "4 syntax", "5 container opened at depth 33", "6 257th node opened"
+-- 4 is “syntax”, 5 that “a container opens at depth 33”, 6 that “a node opens after 256 others”
 abbrev pub faultNumber : Fault → ℕ
 faultNumber syntax = 4
 faultNumber tooDeep = 5
@@ -37,7 +38,8 @@ abbrev pub found : Outcome → Found
 found (accepted t q) = tree t q
 found (refused f p) = fault (faultNumber f) p
 
--- "1, 2, 3 come first, in that order. Then the lowest place wins"; w is the lent table's length
+-- “Refusal 1 is judged first, then 2, then 3. Only then is the text read, from its first byte on. Of 4, 5 and 6 the one with the lowest place is given.” w is
+-- the lent table's length
 abbrev pub findTree : (ℕ → Bool) → (w : ℕ) → Text → Found
 findTree S w x =
     cond (ltb w nodeWords) (fault 1 0)
@@ -49,7 +51,7 @@ findTree S w x =
 abbrev pub about : Tree → (refusal name kind place : ℕ) → Answer
 about t refusal name kind place = record { refusal = refusal; name = name; kind = kind; place = place; nodes = nodes t; depth = depth t }
 
--- a refusal without a tree: "0 where unused"; nodes and depth "both 0 for refusals 1 to 6"
+-- a refusal without a tree. “Refusal 0 is acceptance, and a number that a refusal has no use for is 0.”
 abbrev pub refusedAt : (refusal place : ℕ) → Answer
 refusedAt refusal place = record { refusal = refusal; name = 0; kind = 0; place = place; nodes = 0; depth = 0 }
 

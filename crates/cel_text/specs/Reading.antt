@@ -26,7 +26,7 @@ pub data Stack : Type 0 where
   root : Stack
   inside : Stack → Frame → Stack
 
--- at what depth a value in K stands
+-- how many containers are open
 abbrev pub level : Stack → ℕ
 level root = 0
 level (inside K f) = suc (level K)
@@ -78,14 +78,15 @@ abbrev pub whole : Stack → Tree → Step
 whole root t = done t
 whole (inside K f) t = go (after K (withChild f t))
 
--- "Arrays and functions hold values, objects hold entries"
+-- “The children of an array or a function are values; those of an object are entries, each a key and a value.”
 abbrev pub child : Kind → Stack → Frame → Due
 child array K f = value (inside K f)
 child function K f = value (inside K f)
 child object K f = entry K f
 
 module _ (S : ℕ → Bool) (L : Limits) where
-  -- a container or a string opens at place p; "at one place 5 comes before 6"
+  -- a container or a string opens at place p. “A container that opens inside d others opens at depth d + 1.” “A container that is both too deep and one too
+  -- many is refused with 5.”
   unfoldable pub enter : Kind → Stack → (from to p : ℕ) → Step
   enter c K from to p =
       cond (L .deep (suc (level K))) (refuse tooDeep) (cond (L .many (opened K)) (refuse tooMany) (go (begun K (fresh c p from to))))
@@ -93,13 +94,13 @@ module _ (S : ℕ → Bool) (L : Limits) where
   unfoldable pub enterString : Stack → ℕ → Step
   enterString K p = cond (L .many (opened K)) (refuse tooMany) (go (quoted K p))
 
-  -- the byte b at place p, after an identifier and blanks: "`{` (object) or `(` (function)", or an entry's `:`
+  -- the byte b at place p, after an identifier and blanks: the opener of an object or a function, or an entry's `:`
   unfoldable pub past : Due → (from to p b : ℕ) → Step
   past (value K) from to p b =
       cond (eqb b (opener object)) (enter object K from to p) (cond (eqb b (opener function)) (enter function K from to p) (refuse syntax))
   past (entry K f) from to p b = cond (eqb b colon) (go (before (value (inside K (withKey f (key from to)))))) (refuse syntax)
 
-  -- the same where the identifier is empty: "also `[` (array) or `"` (string)"
+  -- the same where the identifier is empty: the opener of an array or a string too
   unfoldable pub bare : Due → (p b : ℕ) → Step
   bare (value K) p b = cond (eqb b (opener array)) (enter array K 0 0 p) (cond (eqb b quote) (enterString K p) (past (value K) p p p b))
   bare (entry K f) p b = past (entry K f) p p p b
@@ -107,7 +108,7 @@ module _ (S : ℕ → Bool) (L : Limits) where
   unfoldable pub start : Due → (p b : ℕ) → Step
   start w p b = cond (blank b) (go (before w)) (cond (identByte b) (go (naming w p)) (bare w p b))
 
-  -- after a string's content: "blanks, `"`"
+  -- after a string's content. “The blanks between the content and the closing quote are dropped.”
   unfoldable pub unquote : Stack → (o to p b : ℕ) → Step
   unquote K o to p b = cond (blank b) (go (dropping K o to)) (cond (eqb b quote) (whole K (string o to (suc p))) (refuse syntax))
 
@@ -168,7 +169,7 @@ module _ (S : ℕ → Bool) (L : Limits) where
   abbrev pub read : Text → Outcome
   read x = run (before (value root)) 0 x
 
--- "depth 32; nodes 256": "container opened at depth 33", "257th node opened"
+-- a depth of 32 and 256 nodes are the most: refused is that “a container opens at depth 33” or “a node opens after 256 others”
 abbrev pub maxDepth : ℕ
 maxDepth = 32
 
@@ -178,6 +179,6 @@ maxNodes = 256
 abbrev pub limits : Limits
 limits = record { deep = λ d. eqb d (suc maxDepth); many = λ n. eqb n maxNodes }
 
--- "the limits aside"
+-- no limits
 abbrev pub unlimited : Limits
 unlimited = record { deep = λ d. false; many = λ n. false }

@@ -1,4 +1,4 @@
--- The node table of document 01's section "Limits and the tables lent": the rows of a tree, and what a lent table holds after a read. Assumes nothing.
+-- The node table: the rows of a tree, and what a lent table holds after a read. Assumes nothing.
 use Prim.Native.Nat.{ℕ, suc, _+_, _-_, _*_}
 use mathlib.Core.Bool.{cond}
 use mathlib.Core.List.{List, [], _∷_, _++_}
@@ -10,7 +10,7 @@ use Rattle.cel_text.specs.Reading.{maxNodes}
 abbrev pub Words : Type 0
 Words = List ℕ
 
--- "kind: 1 string, 2 array, 3 object, 4 function"
+-- “the kind: 1 for a string, 2 for an array, 3 for an object, 4 for a function”
 abbrev pub stringKind : ℕ
 stringKind = 1
 
@@ -19,7 +19,7 @@ kindNumber array = 2
 kindNumber object = 3
 kindNumber function = 4
 
--- "start and end of the entry's key; 0, 0 if not an entry"
+-- “the ends of its key where the node is an entry; 0 and 0 elsewhere”
 abbrev pub keyFrom : Key → ℕ
 keyFrom unkeyed = 0
 keyFrom (key from to) = from
@@ -28,11 +28,12 @@ abbrev pub keyTo : Key → ℕ
 keyTo unkeyed = 0
 keyTo (key from to) = to
 
--- "eight words each"
+-- “The node table has a row of eight words for each node, and the row of node n begins at word 8n.”
 abbrev pub rowWords : ℕ
 rowWords = 8
 
--- kind; start and end of name or string content; of the key; "parent's number plus 1; root 0"; "direct children"; "number of the first node after its subtree"
+-- the kind; “the ends of an object's or a function's name, or of a string's content; 0 and 0 for an array”; those of the key; “the parent's number plus 1; 0
+-- for the root”; “how many children it has”; “1 more than the greatest number in its subtree”
 abbrev pub row : (kind from to : ℕ) → Key → (parent children past : ℕ) → Words
 row kind from to k parent children past = kind ∷ from ∷ to ∷ keyFrom k ∷ keyTo k ∷ parent ∷ children ∷ past ∷ []
 
@@ -47,7 +48,7 @@ abbrev mutual
   rowsAll ∅ u n = []
   rowsAll (ts ▸ k ∶ t) u n = rowsAll ts u n ++ rowsOf t k u (n + nodesAll ts)
 
--- "Nodes stand in the order of their openers"
+-- “Nodes are numbered from 0, in the order of their openers.”
 abbrev pub rows : Tree → Words
 rows t = rowsOf t unkeyed 0 0
 
@@ -83,7 +84,7 @@ wordsAt ws n =
 abbrev pub rowAt : Words → ℕ → Row
 rowAt ws n = cond (leb (rowWords * suc n) (length ws)) (wordsAt ws n) (wordsAt [] 0)
 
--- "a node table of 32-bit words, at least 2,048 of them": a row for each node that may be
+-- “The first 2,048 words of the table count, which is room for 256 rows.”
 abbrev pub nodeWords : ℕ
 nodeWords = rowWords * maxNodes
 
@@ -91,17 +92,20 @@ nodeWords = rowWords * maxNodes
 pub data Left : Type 0 where
   untouched cleared filled : Left
 
--- "Tables: 1 leaves them untouched. 2 to 6 set the counted words to 0. 7 to 16 keep the node table as for an accepted tree": any other refusal clears
+-- “An accepted text leaves the rows of its tree in the node table and the spans of its policy's strings in the span table.” “Refusal 1 leaves both tables as
+-- they were lent, even where only one is too short.” “Refusals 2 to 6 leave zeros in both tables.” “Refusals 7 to 16 leave the rows of the tree in the node
+-- table and zeros in the span table.” Any other refusal clears
 abbrev pub nodesLeft : ℕ → Left
 nodesLeft refusal = cond (eqb refusal 0) filled (cond (eqb refusal 1) untouched (cond (leb 7 refusal) (cond (leb refusal 16) filled cleared) cleared))
 
--- a lent table of which n words count, filled with ws: "Spare words are 0." "Words past those counts are never touched."
+-- a lent table of which n words count, filled with ws. “Where rows or spans are left, the other words that count are 0. No word after those that count is
+-- touched.”
 abbrev pub hold : Left → ℕ → Words → Words → Words
 hold untouched n ws lent = lent
 hold cleared n ws lent = replicate n 0 ++ drop n lent
 hold filled n ws lent = ws ++ (replicate (n - length ws) 0 ++ drop n lent)
 
--- the same where the spare words stay as lent
+-- the same for reading over a table. “Where they leave rows or spans, all other words stay as they were lent. Zeros are left as above.”
 abbrev pub holdOver : Left → ℕ → Words → Words → Words
 holdOver untouched n ws lent = lent
 holdOver cleared n ws lent = replicate n 0 ++ drop n lent

@@ -1,20 +1,21 @@
--- Trees with places, and their sizes as document 01 counts them. A place is the number of bytes before it. Assumes nothing.
+-- Trees with places, and their sizes. “A place is the number of bytes that stand before it, so the first byte is at place 0.” Assumes nothing.
 use mathlib.Core.Path.{_≡_}
 use Prim.Native.Nat.{ℕ, suc, _+_, max}
 use mathlib.Core.Option.{some}
 use mathlib.Core.List.{List, [], _∷_, _++_}
 use lib.ListN.{getElem?}
 
--- "object", "function", "array": the values that hold values
+-- “Arrays, objects and functions are containers.”
 pub data Kind : Type 0 where
   array object function : Kind
 
--- "An opener is the byte `{`, `(`, `[` or a string's first `"`."
+-- “The opener of an object is `{`, of a function `(`, of an array `[`, and of a string its first `"`.”
 abbrev pub opener : Kind → ℕ
 opener array = 91
 opener object = 123
 opener function = 40
 
+-- “The closers are `}`, `)`, `]` and the second `"`.”
 abbrev pub closer : Kind → ℕ
 closer array = 93
 closer object = 125
@@ -39,7 +40,7 @@ mutual
     _▸_∶_ : Trees → Key → Tree → Trees
 
 abbrev mutual
-  -- "nodes (each value is one)"
+  -- “Each value is a node.”
   pub nodes : Tree → ℕ
   nodes (string o to q) = 1
   nodes (container c o from to q ts) = suc (nodesAll ts)
@@ -49,7 +50,7 @@ abbrev mutual
   nodesAll (ts ▸ k ∶ t) = nodesAll ts + nodes t
 
 abbrev mutual
-  -- "the root container is at depth 1, and each object, function or array inside another adds 1. Strings add none."
+  -- “The depth of a string is 0, that of a container without children 1, and that of any other container 1 more than the greatest depth of its children.”
   pub depth : Tree → ℕ
   depth (string o to q) = 0
   depth (container c o from to q ts) = suc (depthAll ts)
@@ -58,18 +59,18 @@ abbrev mutual
   depthAll ∅ = 0
   depthAll (ts ▸ k ∶ t) = max (depthAll ts) (depth t)
 
--- "direct children"
+-- “how many children it has”
 abbrev pub count : Trees → ℕ
 count ∅ = 0
 count (ts ▸ k ∶ t) = suc (count ts)
 
--- where a node opens and, of a container, at which depth; 0 for a string
+-- where a node opens and, of a container, at which depth; 0 for a string. “A container that opens inside d others opens at depth d + 1.”
 pub record Opening : Type 0 where
   pub place : ℕ
   pub depth : ℕ
 
 abbrev mutual
-  -- "Nodes stand in the order of their openers": the openings of a value at depth d, in that order
+  -- “Nodes are numbered from 0, in the order of their openers.” The openings of a value at depth d, in that order
   pub openings : ℕ → Tree → List Opening
   openings d (string o to q) = record { place = o; depth = 0 } ∷ []
   openings d (container c o from to q ts) = record { place = o; depth = d } ∷ openingsAll (suc d) ts

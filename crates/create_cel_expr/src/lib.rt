@@ -17,7 +17,7 @@ ghost use Rattle.create_cel_expr.specs.Given.{printTold};
 ghost use Rattle.parser.specs.Set.{stringSet};
 ghost use Rattle.create_cel_expr.specs.Judged.{judgedAs, Judges, printing};
 
-// Document 01's answer of printing.
+// The answer of printing: its five numbers.
 pub struct Printed {
     pub refusal: u32,
     pub name: u32,

@@ -1,4 +1,4 @@
--- The answer of reading a tree: the program's struct in document 01's numbers, and what the steps below `read_over` answer. Assumes nothing.
+-- The answer of reading a tree: the program's struct in the numbers of SPEC.md, and what the steps below `read_over` answer. Assumes nothing.
 use mathlib.Core.Path.{_≡_}
 use Prim.Native.Nat.{ℕ, _≤_}
 use lib.Seq.{sets}
@@ -14,7 +14,7 @@ use Rattle.parser.specs.declared.Step.{Step}
 use Rattle.parser.specs.declared.Step.the-variants.{Next, Refused}
 use Rattle.parser.specs.Steps.{Sized}
 
--- the struct that the program answers, as document 01's answer
+-- the struct that the program answers, in the numbers of SPEC.md
 abbrev pub told : Told → Answer
 told a = record { refusal = a .refusal; name = a .name; kind = a .kind; place = a .place; nodes = a .nodes; depth = a .depth }
 

@@ -1,4 +1,4 @@
--- The set of string bytes that this program reads with: document 01's. Assumes nothing.
+-- The set of string bytes that this program reads with: the one of SPEC.md. Assumes nothing.
 use Prim.Native.Nat.{ℕ}
 use mathlib.Core.Bool.{Bool}
 use Rattle.cel_text.specs.Byte.{stringByte}

@@ -31,7 +31,7 @@ pub(crate) enum Step {
     Refused(u32, Place),
 }
 
-// Document 01's answer of reading a tree.
+// The answer of reading a tree: its six numbers.
 pub struct Answer {
     pub refusal: u32,
     pub name: u32,

@@ -123,7 +123,7 @@ fn run(text: &[u8], at: Place, class: Class) -> Place
 }
 
 // The place of the first byte of 128 or more, or the text's length. Nearly every text has none, and the loop that finds the
-// greatest byte has no way out, so that it takes many bytes at a time.
+// greatest byte has no early exit, so that it can be vectorised.
 pub(crate) fn ascii_end(text: &[u8]) -> Place
     ensures { λ r. ⌜ r .0 ≡ endOf ascii (now (text .entry)) 0 ⌝ }
 {

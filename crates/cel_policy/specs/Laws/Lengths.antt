@@ -1,4 +1,4 @@
--- The printed text has the length that document 01 gives: by counting each piece. Assumes nothing.
+-- The printed text has the length that SPEC.md gives: by counting each piece. Assumes nothing.
 use mathlib.Core.Path.{_≡_, refl}
 use Prim.Native.Nat.{ℕ, _+_, _*_}
 use mathlib.Core.Bool.{Bool, true, false, cond}
@@ -46,7 +46,7 @@ length-fullText :
 unfolding fullText
 length-fullText p = simp (length-append, length-requestText, length-responseText) (omega arith)
 
--- "Skip: 63 bytes. ResponseOnly: 204 plus its list. Full: 274 plus its three lists."
+-- “The text of Skip has 63 bytes, that of ResponseOnly 204 and its list, that of Full 274 and its three lists.”
 pub length-printed : (p : Policy Text) → length (printed p) ≡ printedLength p
 unfolding printed printedLength skipText
 length-printed p = simp (length-cond, length-responseOnlyText, length-fullText)

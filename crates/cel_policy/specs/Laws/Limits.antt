@@ -1,4 +1,4 @@
--- Document 01's cases where 8,192 bytes are printed and where they are not, for every string of the given length. Assumes nothing.
+-- The cases of SPEC.md where 8,192 bytes are printed and where they are not, for every string of the given length. Assumes nothing.
 use mathlib.Core.Path.{_≡_, sym, ap, _∙_}
 use Prim.Native.Nat.{ℕ, _+_, _-_, _≤_}
 use native.Mathlib.Omega.{arith}
@@ -49,7 +49,7 @@ print-one s h r =
     let read : Readable stringByte s (oneHeader span) = record { shape = certifies none (first (span ∷ [])) (lit≤ tt); fits = each fit nothing } in
     print-read stringByte s (oneHeader span) read [] r ∙ ap (λ (t : Text). sized (printed (oneHeader t)) r) (take-length s)
 
--- "ResponseOnly, one string of 7,986 bytes: prints 8,192"
+-- “ResponseOnly with one string of 7,986 bytes prints 8,192 bytes.”
 pub prints-8192 :
     (s : Text) → Run stringByte s → length s ≡ 7986 → (r : ℕ) → 8192 ≤ r
     → printAnswer stringByte oneAsked (0 ∷ 7986 ∷ []) s r ≡ record { refusal = 0; name = 0; kind = 0; place = 0; length = 8192 }
@@ -58,14 +58,14 @@ prints-8192 s h n r room =
     let long : length (printed (oneHeader s)) ≡ 8192 = length-oneHeader s ∙ omega arith in
     rw (sym n, print-one s h r, sized-fits (printed (oneHeader s)) r (omega arith) (omega arith), long)
 
--- "7,987: 23"
+-- “With one of 7,987 it is refused with 23.”
 pub refuses-8193 :
     (s : Text) → Run stringByte s → length s ≡ 7987 → (r : ℕ)
     → printAnswer stringByte oneAsked (0 ∷ 7987 ∷ []) s r ≡ record { refusal = 23; name = 0; kind = 0; place = 0; length = 0 }
 unfolding printAnswer
 refuses-8193 s h n r = rw (sym n, print-one s h r, sized-long (printed (oneHeader s)) r (omega (arith, length-oneHeader s)))
 
--- "A text with `""` for `Empty{}`"
+-- a text of ResponseOnly with `""` for `Empty{}`
 abbrev pub shorterText : Text → Text
 shorterText s =
     bytes "default_certification(ValidationArgs{certification:Certification{no_request_certification:\"\","
@@ -91,7 +91,7 @@ shorter-read s h =
     (mapping-certified (str []) none (first (s ∷ []))) (omega arith) (omega arith) [] in
     rw (shorter-written s, sym tall, sym big) (rw (append-nil (write (shorterValue s))) at r)
 
--- "and a string of 7,991 bytes is read at 8,192"
+-- “A text of ResponseOnly with `""` for `Empty{}` and one string of 7,991 bytes has 8,192 bytes.”
 module _ (s : Text) (h : Run stringByte s) (n : length s ≡ 7991) where
   shorter-length : length (shorterText s) ≡ 8192
   shorter-length = simp (length-append, n)
@@ -112,7 +112,7 @@ module _ (s : Text) (h : Run stringByte s) (n : length s ≡ 7991) where
     unfolding policyAnswer
     reads-8192 = rw (found-8192, numbers, shorter-read s h .hasNodes, shorter-read s h .hasDepth)
 
-    -- "and refused with 23 on printing", from the span table that the read left
+    -- “It is read, and its policy is refused with 23 on printing.” It is printed from the span table that the read left
     pub refuses-8197 :
         (r : ℕ)
         → printAnswer stringByte oneAsked (policySpans (shorterText s) nodes spans) (shorterText s) r

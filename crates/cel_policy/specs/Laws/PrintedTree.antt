@@ -1,4 +1,4 @@
--- The value that a printed text is: its text is `printed`, its nodes and depth are document 01's, and the mapping makes the policy of it. Assumes nothing.
+-- The value that a printed text is: its text is `printed`, its nodes and depth are those of SPEC.md, and the mapping makes the policy of it. Assumes nothing.
 use mathlib.Core.Path.{_≡_, refl, sym, _∙_}
 use Prim.Native.Nat.{ℕ, suc, _+_, _≤_}
 use native.Mathlib.Nat.{max-zero}

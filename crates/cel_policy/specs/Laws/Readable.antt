@@ -21,7 +21,7 @@ use Rattle.cel_policy.specs.Laws.Places.{Here, here-left, here-right, he
 use Rattle.cel_policy.specs.Laws.Shape.{Shape, shape-right}
 use Rattle.cel_policy.specs.Laws.Counts.{size-nodeOf, meets-mapping}
 
--- a span that print accepts: "no start after its end, spans inside the text; string bytes only"
+-- a span that print accepts: it fits, and its bytes are string bytes
 pub record Fits (S : ℕ → Bool) (x : Text) (s : Span) : Type 0 where
   pub ordered : s .from ≤ s .to
   pub inside : s .to ≤ length x

@@ -1,4 +1,4 @@
--- Which trees any limits admit, and that document 01's admit a tree exactly if its depth is at most 32 and its nodes at most 256. Assumes nothing.
+-- Which trees any limits admit, and that those of SPEC.md admit a tree exactly if its depth is at most 32 and its nodes at most 256. Assumes nothing.
 use mathlib.Core.Path.{_≡_, refl}
 use Prim.Native.Nat.{ℕ, suc, _+_, _≤_}
 use mathlib.Core.Bool.{false}

@@ -207,7 +207,7 @@ module _ (S : ℕ → Bool) (L : Limits) where
         | one-more {c = c} {p = p} {vs = vs} (ch → h) sep lab (val → ih) ↦ reads-more c p vs h sep lab val ih
       ]
 
--- T2 at document 01's limits
+-- T2 at the limits of SPEC.md
 pub complete : (S : ℕ → Bool) → Plain S → {v : Text} {t : Tree} → Value S 0 v t → depth t ≤ maxDepth → nodes t ≤ maxNodes → (rest : Text) → read S limits (v ++ rest) ≡ accepted t (length v)
 complete S P {v = v} {t = t} d hd hn rest =
     reads-value S limits P d root rest (fits-admits t 0 0 (omega arith) (omega arith)) ∙ ap (accepted t) (omega arith)

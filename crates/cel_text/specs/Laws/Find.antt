@@ -1,4 +1,4 @@
--- What "read a tree" finds: the first of five things that holds, in document 01's order. Whoever takes `findTree` apart does it by `finds`. Assumes nothing.
+-- What reading a tree finds: the first of five things that holds, in the order of SPEC.md. Whoever takes `findTree` apart does it by `finds`. Assumes nothing.
 use mathlib.Core.Path.{_≡_, refl}
 use Prim.Native.Nat.{ℕ, _≤_, _<_}
 use native.Mathlib.Omega.{arith}

@@ -251,7 +251,7 @@ module _ (S : ℕ → Bool) where
 
 -- ---- T3′
 
--- "container opened at depth 33"; "257th node opened", numbers counting from 0, where "5 comes before 6"; what the limits do not admit
+-- “a container opens at depth 33”; “a node opens after 256 others”, which is node 256, and it is not refused with 5; what the limits do not admit
 abbrev pub Depth33 : (n d : ℕ) → Type 0
 Depth33 n d = d ≡ suc maxDepth
 

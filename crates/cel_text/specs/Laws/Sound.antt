@@ -524,7 +524,7 @@ accepts-reads S L x t q a =
 pub sound : (S : ℕ → Bool) (L : Limits) (x : Text) (t : Tree) (q : ℕ) → read S L x ≡ accepted t q → Reads S x t q
 sound S L x t q e = accepts-reads S L x t q (subst (Ends S L (before (value root)) 0 x) e (ends S L (before (value root)) 0 x))
 
--- document 01's limits are kept
+-- the limits of SPEC.md are kept
 pub within : (S : ℕ → Bool) (x : Text) (t : Tree) (q : ℕ) → read S limits x ≡ accepted t q → (depth t ≤ maxDepth) × (nodes t ≤ maxNodes)
 within S x t q e =
     let h : (0 + depth t ≤ maxDepth) × (0 + nodes t ≤ maxNodes) = admits-fits t 0 0 (omega arith) (omega arith) (admitted S limits x t q e) in
