@@ -2,20 +2,11 @@
 
 warnings='-Wall -Wextra -Wpedantic -Werror'
 
-# needs COMMAND WHAT
-needs() {
-	command -v "$1" >/dev/null || fail "$1, $2, is not there" 2
-}
+. "$top/tests/missing.sh"
 
 # Ends the test where the machine cannot link the archive.
-skip_unless_linkable() {
-	case $(uname -sm) in
-	'Linux x86_64') ;;
-	*)
-		echo "SKIPPED: the archive is for x86-64 Linux, and this machine is not"
-		exit 0
-		;;
-	esac
+needs_machine() {
+	[ "$(uname -sm)" = 'Linux x86_64' ] || missing "a machine that can link the archive: x86-64 Linux"
 }
 
 # Makes the archive, or takes the one in the folder that HILLADOK_LIB_DIR names; sets $archive.
