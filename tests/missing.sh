@@ -11,6 +11,12 @@ needs() {
 	command -v "$1" >/dev/null || debian "$2" && command -v "$1" >/dev/null || missing "$1: install Debian's package $2"
 }
 
+# The original Rust has forms that came with Rust 1.65; Debian 12 has 1.63.
+needs_cargo() {
+	command -v cargo >/dev/null && rust=$(rustc --version 2>/dev/null | sed -n 's/^rustc 1\.\([0-9]*\)\..*/\1/p') && [ "${rust:-0}" -ge 65 ] ||
+		missing "cargo, with Rust 1.65 or later: install it from rustup.rs"
+}
+
 # debian PACKAGE...: installs packages and says so in one line; fails where that cannot be.
 debian() {
 	command -v apt-get >/dev/null || return
