@@ -9,6 +9,7 @@ on_archive='./archive tests/axioms tests/host/run tests/fuzz/replay tests/readme
 on_programs='tests/explain tests/live tests/second-opinion tests/model/misuse'
 
 kept=target/rows
+may_skip='. Where something is only missing, HILLADOK_MAY_SKIP=1 has the tests that need it skipped'
 
 # row NAME COMMAND...: one after the other. What they say goes to NAME.log, and the names of those that failed, or were skipped, to lists.
 row() {
