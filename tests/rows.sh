@@ -30,6 +30,12 @@ row() {
 	done >$kept/$name.log 2>&1
 }
 
+# ended PROCESS NAME: waits for a row and shows what it said. A row that did not come to its end has failed.
+ended() {
+	wait "$1" || echo "the row $2" >>$kept/failed
+	cat $kept/$2.log
+}
+
 # alone COMMAND: with no input; what Python is to run lacks something where there is none.
 alone() {
 	case $(head -n 1 "$1") in
@@ -44,10 +50,12 @@ rows_on_proved() {
 	HILLADOK_LIB_DIR=$PWD/target
 	export HILLADOK_BIN_DIR HILLADOK_LIB_DIR
 	row archive "$@" $on_archive &
-	row programs $on_programs
-	wait
+	first=$!
+	row programs $on_programs &
+	second=$!
+	ended $first archive
+	ended $second programs
 	unset HILLADOK_BIN_DIR HILLADOK_LIB_DIR
-	cat $kept/archive.log $kept/programs.log
 }
 
 # failed_tests: the names of those that failed, on one line.
