@@ -2,11 +2,11 @@
 # A test that fails lets its row go on. One that lacks something (status 3) fails too, unless HILLADOK_MAY_SKIP=1: then it is skipped.
 
 # The tests that need nothing proved. Two of them call `rt`, for its layout and its version, and none writes where `rt` does.
-apart='tests/layout tests/imports tests/promises tests/scripts tests/needs-misuse tests/gate-misuse tests/facts-misuse tests/axioms-misuse tests/notice tests/judge-misuse tests/differential tests/fuzz/misuse'
+apart='tests/layout tests/imports tests/promises tests/quotes tests/scripts tests/needs-misuse tests/gate-misuse tests/facts-misuse tests/axioms-misuse tests/notice tests/judge-misuse tests/differential tests/fuzz/misuse'
 
 # The archive, and the tests on it; the tests on the programs. The two rows take about the same time, and the first alone calls `rt`.
 on_archive='./archive tests/axioms tests/host/run tests/fuzz/replay tests/readme'
-on_programs='tests/explain tests/live tests/second-opinion tests/model/misuse'
+on_programs='tests/explain tests/examples tests/spec-misuse tests/live tests/second-opinion tests/model/misuse'
 
 kept=target/rows
 may_skip='. Where something is only missing, HILLADOK_MAY_SKIP=1 has the tests that need it skipped'
