@@ -1,6 +1,6 @@
 /*
  * Hilladok for C and C++: read a certification expression, print its canonical text.
- * The function is in libhost.a, which `rt staticlib host` makes for x86-64 Linux. C99 or later, or C++.
+ * The function is in target/libhilladok.a, which ./archive makes, for x86-64 Linux. C99 or later, or C++.
  */
 #ifndef HILLADOK_H
 #define HILLADOK_H

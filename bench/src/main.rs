@@ -7,7 +7,7 @@ use cel::parser::parse_cel_expression;
 use std::hint::black_box;
 use std::time::Instant;
 
-#[link(name = "host", kind = "static")]
+#[link(name = "hilladok", kind = "static")]
 extern "C" {
     fn hilladok_canonicalise(text: *const u8, length: usize, out: *mut u8, room: usize) -> u32;
 }

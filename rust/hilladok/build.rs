@@ -1,11 +1,11 @@
-//! Finds the archive libhost.a: in the folder that HILLADOK_LIB_DIR names, else in target/staticlib of the repository, else
-//! `rt staticlib host` makes it there. Where none of these can be, the build fails with one line that says why.
+//! Finds the archive libhilladok.a: in the folder that HILLADOK_LIB_DIR names, else in target/ of the repository, else the
+//! repository's script `archive` makes it there. Where none of these can be, the build fails with one line that says why.
 
 use std::env;
 use std::path::{Path, PathBuf};
 use std::process::{exit, Command, Stdio};
 
-const ARCHIVE: &str = "libhost.a";
+const ARCHIVE: &str = "libhilladok.a";
 const VARIABLE: &str = "HILLADOK_LIB_DIR";
 
 fn main() {
@@ -15,7 +15,7 @@ fn main() {
         Ok(folder) => {
             println!("cargo:rerun-if-changed={}", folder.join(ARCHIVE).display());
             println!("cargo:rustc-link-search=native={}", folder.display());
-            println!("cargo:rustc-link-lib=static=host");
+            println!("cargo:rustc-link-lib=static=hilladok");
         }
         Err(why) => {
             eprintln!("hilladok: {why}");
@@ -48,14 +48,14 @@ fn folder() -> Result<PathBuf, String> {
         };
     }
     let top = repository()?;
-    let made = top.join("target").join("staticlib");
+    let made = top.join("target");
     if !has_archive(&made) {
         make_archive(&top)?;
     }
     match has_archive(&made) {
         true => Ok(made),
         false => Err(format!(
-            "`rt staticlib host` made no {ARCHIVE} in {}",
+            "the script `archive` made no {ARCHIVE} in {}",
             made.display()
         )),
     }
@@ -82,16 +82,13 @@ fn repository() -> Result<PathBuf, String> {
 }
 
 fn make_archive(top: &Path) -> Result<(), String> {
-    let rt = Command::new("rt")
-        .args(["staticlib", "host"])
-        .current_dir(top)
-        .stdin(Stdio::null())
-        .output();
-    match rt {
+    let script = top.join("archive");
+    let made = Command::new(&script).stdin(Stdio::null()).output();
+    match made {
         Ok(output) if output.status.success() => Ok(()),
-        Ok(_) => Err(format!("`rt staticlib host` fails in {}: run it there to see why", top.display())),
-        Err(_) => Err(format!(
-            "no {ARCHIVE}, and rt, the Rattle kit's command, cannot be run: let {VARIABLE} name the archive's folder"
+        _ => Err(format!(
+            "no {ARCHIVE}, and {} fails: run it to see why, or let {VARIABLE} name the archive's folder",
+            script.display()
         )),
     }
 }

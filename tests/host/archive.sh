@@ -2,37 +2,26 @@
 
 warnings='-Wall -Wextra -Wpedantic -Werror'
 
-# needs COMMAND WHAT
-needs() {
-	command -v "$1" >/dev/null || fail "$1, $2, is not there" 2
-}
+. "$top/tests/missing.sh"
 
 # Ends the test where the machine cannot link the archive.
-skip_unless_linkable() {
-	case $(uname -sm) in
-	'Linux x86_64') ;;
-	*)
-		echo "SKIPPED: the archive is for x86-64 Linux, and this machine is not"
-		exit 0
-		;;
-	esac
+needs_machine() {
+	[ "$(uname -sm)" = 'Linux x86_64' ] || missing "a machine that can link the archive: x86-64 Linux"
 }
 
 # Makes the archive, or takes the one in the folder that HILLADOK_LIB_DIR names; sets $archive.
 find_archive() {
 	if [ -n "${HILLADOK_LIB_DIR+set}" ]; then
-		archive=$HILLADOK_LIB_DIR/libhost.a
-		[ -f "$archive" ] || fail "HILLADOK_LIB_DIR names a folder without libhost.a: $HILLADOK_LIB_DIR" 2
+		archive=$HILLADOK_LIB_DIR/libhilladok.a
+		[ -f "$archive" ] || fail "HILLADOK_LIB_DIR names a folder without libhilladok.a: $HILLADOK_LIB_DIR" 2
 		HILLADOK_LIB_DIR=$(cd "$HILLADOK_LIB_DIR" && pwd)
-		archive=$HILLADOK_LIB_DIR/libhost.a
+		archive=$HILLADOK_LIB_DIR/libhilladok.a
 		echo "the archive is $archive"
 		return
 	fi
-	needs rt "the Rattle kit's command"
-	archive=$top/target/staticlib/libhost.a
-	(cd "$top" && rt staticlib host) >"$made/rt.log" 2>&1 || {
-		cat "$made/rt.log" >&2
-		fail "rt staticlib host fails"
+	archive=$top/target/libhilladok.a
+	"$top/archive" >"$made/archive.log" 2>&1 || {
+		cat "$made/archive.log" >&2
+		fail "there is no archive to test"
 	}
-	[ -f "$archive" ] || fail "rt staticlib host made no libhost.a"
 }

@@ -3,8 +3,8 @@
 //! The work is done by a proved archive without globals and without heap; this crate lends it two slices and gives its
 //! refusals names. [`canonicalise`] may be called from any number of threads at once.
 //!
-//! The build takes the archive, `libhost.a`, from the folder that `HILLADOK_LIB_DIR` names, or from this repository's
-//! `target/staticlib`, or has the Rattle kit make it there. It is for x86-64 Linux.
+//! The build takes the archive, `libhilladok.a`, from the folder that `HILLADOK_LIB_DIR` names, or from this repository's
+//! `target`, or has the repository's script `archive` make it there. It is for x86-64 Linux.
 //!
 //! ```
 //! use hilladok::{canonicalise, Refusal, MOST_BYTES};
