@@ -1,5 +1,5 @@
 /*
- * Document 01 once more, in C and for the host entry alone: read the text by recursive descent, map the tree, print the policy.
+ * SPEC.md once more, in C and for the host entry alone: read the text by recursive descent, map the tree, print the policy.
  * Places are kept only as far as the mapping needs them, for the entry does not give any.
  */
 #include "model.h"

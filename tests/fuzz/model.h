@@ -1,4 +1,4 @@
-/* What the host entry must answer, by a model of document 01 of its own. */
+/* What the host entry must answer, by a model of SPEC.md of its own. */
 #ifndef MODEL_H
 #define MODEL_H
 

@@ -1,4 +1,4 @@
-"""What document 01 says, a second time: reading a tree, reading a policy, printing, canonicalising.
+"""What SPEC.md says, a second time: reading a tree, reading a policy, printing, canonicalising.
 
 Written from the document alone, as a recursive descent over the text. It shares nothing with the definitions under crates/,
 so what both get wrong is what the document says wrongly.

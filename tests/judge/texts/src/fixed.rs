@@ -16,7 +16,7 @@ const SEED: u64 = 1;
 /// Texts of the mix longer than this would make the list large and say little more.
 const MOST_BYTES_OF_MIX: usize = 400;
 
-/// Document 01's short cases, and neighbours of theirs.
+/// Short cases of SPEC.md, and neighbours of theirs.
 const CASES: [&str; 44] = [
     "",
     "a",
@@ -98,7 +98,7 @@ impl List {
     }
 }
 
-/// Document 01's cases at the limits, none of which prints to more than 8,192 bytes.
+/// Cases at the limits of SPEC.md, none of which prints to more than 8,192 bytes.
 fn at_the_limits() -> Vec<Vec<u8>> {
     vec![
         limits::nested(32),
