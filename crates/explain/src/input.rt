@@ -11,10 +11,10 @@ pub(crate) struct Held {
     pub failed: bool,
 }
 
-// Room for the longest text and one byte more, which tells that a text is longer. The `ensures` gives the length, which lending
-// a part needs.
+// The longest text and one byte more, which tells that a text is longer.
 const ROOM: usize = MAX_TEXT + 1;
 
+// Room for it. The `ensures` gives the length, which lending a part needs.
 pub(crate) fn text_room() -> [u8; ROOM]
     ensures { λ r. ⌜ suc maxText ≡ length r ⌝ }
 {
