@@ -5,7 +5,9 @@ use Prim.Native.Nat.{ℕ, zero, suc, _<_}
 use native.Mathlib.Nat.{le-of-suc-le-suc, not-suc-le-zero, eq-or-lt-of-le}
 use mathlib.Core.Bool.{Bool, true, false, not, cond, _&&_, _||_}
 use mathlib.Core.Logic.{⊎-elim}
+use native.Mathlib.Omega.{arith}
 use lib.Dec.{eqb, leb}
+use borrow.Author.Tests.{ne-eqb}
 use lib.Bits.{bitOr}
 use Rattle.cel_text.specs.Byte.{blank, alphanumeric, identByte, stringByte}
 use Rattle.cel_text.specs.Laws.Class.{both-true}
@@ -15,6 +17,11 @@ use Rattle.parser.specs.Run.{letter, digit}
 pub space-blank : blank 32 ≡ true
 unfolding blank
 space-blank = refl
+
+-- past the space there is no blank
+pub past-blank : (b : ℕ) → 32 < b → blank b ≡ false
+unfolding blank
+past-blank b h = rw (ne-eqb b 32 (λ e. omega (arith, e)), ne-eqb b 9 (λ e. omega (arith, e)), ne-eqb b 10 (λ e. omega (arith, e)), ne-eqb b 13 (λ e. omega (arith, e)))
 
 -- letters and digits are what both classes share
 module _ (b : ℕ) where

@@ -43,8 +43,18 @@ pub fn run_of(text: &[u8], at: Place, class: Class) -> Place
     }
 }
 
-// The same for blanks. Most of them are spaces, many in a row, and those are passed eight at a time.
+// The same for blanks. At most places there is none, and the byte there is greater than all of them.
 fn blanks(text: &[u8], at: Place) -> Place
+    ensures { λ r. ⌜ r .0 ≡ endOf blank (now (text .entry)) (at .0) ⌝ }
+{
+    if b' ' < peek(text, at) {
+        return at;
+    }
+    blank_run(text, at)
+}
+
+// Blank by blank. Most are spaces, many in a row, and those are passed eight at a time.
+fn blank_run(text: &[u8], at: Place) -> Place
     ensures { λ r. ⌜ r .0 ≡ endOf blank (now (text .entry)) (at .0) ⌝ }
 {
     let mut i = at.0;
@@ -180,13 +190,9 @@ fn has(class: Class, b: u8) -> bool
     }
 }
 
-// Most bytes are no blanks, and greater than all of them.
 fn is_blank(b: u8) -> bool
     ensures { λ r. ⌜ r ≡ blank b ⌝ }
 {
-    if b' ' < b {
-        return false;
-    }
     if b == b' ' {
         return true;
     }
