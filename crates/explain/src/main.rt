@@ -16,7 +16,7 @@ fn put_help() {
         b"Usage: explain [FILE]\n\
           \n\
           Explains the certification expression in the file, or on standard input: the policy that it\n\
-          stands for, or why and where it is refused. What follows the expression is not looked at.\n\
+          stands for, or why and where it is refused. What follows the expression only has to be ASCII.\n\
           Bytes and nodes are counted from 0, lines and columns from 1.\n",
     );
 }
