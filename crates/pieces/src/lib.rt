@@ -1,4 +1,4 @@
-// Pieces of output: each is written from a place of a lent buffer on, and the place after it is answered. Printers are made of these.
+// Pieces of output: each is written from a place of a lent buffer on, and the place after it is answered. What the programs print is made of these.
 ghost use Prim.Native.Nat.{_+_, _≤_, _<_};
 ghost use lib.ListN.{length};
 ghost use Rattle.pieces.specs.Pieces.{Wrote};
