@@ -6,5 +6,5 @@ abbrev pub every : List ℕ → ℕ → Bool
 every [] w = true
 every (v ∷ vs) w = eqb v w && every vs w
 
-abbrev pub everyIs : List ℕ → (from to w : ℕ) → Bool
-everyIs ws from to w = every (drop from (take to ws)) w
+abbrev pub every_is : List ℕ → (from to w : ℕ) → Bool
+every_is ws from to w = every (drop from (take to ws)) w

@@ -1,6 +1,6 @@
 // The entries called on what a request lends, and their fields.
 ghost use Rattle.std.specs.Prelude.{◌≤◌, length};
-ghost use Rattle.ask.specs.Room.{mostBytes, mostWords};
+ghost use Rattle.ask.specs.Room.{most_bytes, most_words};
 
 use crate::write::{put, put_hex, put_number, put_words};
 use crate::{every, room};
@@ -134,7 +134,7 @@ fn bytes_in(lent: &[u8], answer: u32) -> usize
 
 fn tree_fields(text: &[u8], nodewords: usize, out: &mut [u8], at: usize) -> usize
     requires at_in_bounds { at ≤ length out.old }
-    requires nodewords_le_most_words { nodewords ≤ mostWords }
+    requires nodewords_le_most_words { nodewords ≤ most_words }
     ensures { result ≤ length out.new }
 {
     let mut table = room::words();
@@ -149,8 +149,8 @@ fn policy_fields(
     at: usize,
 ) -> usize
     requires at_in_bounds { at ≤ length out.old }
-    requires nodewords_le_most_words { nodewords ≤ mostWords }
-    requires spanwords_le_most_words { spanwords ≤ mostWords }
+    requires nodewords_le_most_words { nodewords ≤ most_words }
+    requires spanwords_le_most_words { spanwords ≤ most_words }
     ensures { result ≤ length out.new }
 {
     let mut nodes = room::words();
@@ -166,7 +166,7 @@ fn policy_fields(
 
 fn canonical_fields(text: &[u8], room: usize, out: &mut [u8], at: usize) -> usize
     requires at_in_bounds { at ≤ length out.old }
-    requires room_le_most_bytes { room ≤ mostBytes }
+    requires room_le_most_bytes { room ≤ most_bytes }
     ensures { result ≤ length out.new }
 {
     let mut lent = room::bytes();
@@ -181,9 +181,9 @@ pub(crate) fn put_all(
     room: usize,
     out: &mut [u8],
 ) -> usize
-    requires nodewords_le_most_words { nodewords ≤ mostWords }
-    requires spanwords_le_most_words { spanwords ≤ mostWords }
-    requires room_le_most_bytes { room ≤ mostBytes }
+    requires nodewords_le_most_words { nodewords ≤ most_words }
+    requires spanwords_le_most_words { spanwords ≤ most_words }
+    requires room_le_most_bytes { room ≤ most_bytes }
     ensures { result ≤ length out.new }
 {
     let end = tree_fields(text, nodewords, out, 0);

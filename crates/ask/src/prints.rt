@@ -1,6 +1,6 @@
 // `prints`: a policy that anyone may have made, printed: the five numbers of `print_policy`, and the whole output in hex.
 ghost use Rattle.std.specs.Prelude.{◌≤◌, length};
-ghost use Rattle.ask.specs.Room.{mostBytes};
+ghost use Rattle.ask.specs.Room.{most_bytes};
 ghost use Rattle.ask.specs.Prints.{Fitting};
 
 use crate::room::MOST_BYTES;
@@ -111,7 +111,7 @@ fn put_printed(text: &[u8], policy: Policy, spans: &[u32], lent: &mut [u8], out:
 
 // The same on an output of so many bytes.
 fn put_all(text: &[u8], policy: Policy, spans: &[u32], room: usize, out: &mut [u8]) -> usize
-    requires { room ≤ mostBytes }
+    requires { room ≤ most_bytes }
     ensures { result ≤ length out.new }
 {
     let mut lent = room::bytes();

@@ -1,6 +1,6 @@
 // What a request gives and is lent. Each `ensures` gives the length, which lending a part needs.
 ghost use Rattle.std.specs.Prelude.{◌≡◌, length};
-ghost use Rattle.ask.specs.Room.{mostBytes, mostWords};
+ghost use Rattle.ask.specs.Room.{most_bytes, most_words};
 
 const BYTES: usize = 16384;
 
@@ -18,14 +18,14 @@ pub(crate) const FILL_WORD: u32 = 0xA5A5_A5A5;
 
 // Room for a text or an output.
 pub(crate) fn bytes() -> [u8; BYTES]
-    ensures { mostBytes ≡ length result }
+    ensures { most_bytes ≡ length result }
 {
     [FILL_BYTE; BYTES]
 }
 
 // Room for a table.
 pub(crate) fn words() -> [u32; WORDS]
-    ensures { mostWords ≡ length result }
+    ensures { most_words ≡ length result }
 {
     [FILL_WORD; WORDS]
 }

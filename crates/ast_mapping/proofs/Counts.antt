@@ -4,7 +4,7 @@ use Prim.Native.Nat.{ℕ, ◌+◌, ◌*◌, ◌^◌, ◌≤◌, ◌<◌}
 use native.Mathlib.Omega.{arith}
 use mir.Syntax.{w64}
 use mir.Val.{Fits}
-use Rattle.cel_text.specs.Reading.{maxNodes}
+use Rattle.cel_text.specs.Reading.{max_nodes}
 
 pub le_as : {a b x y : ℕ} → a ≡ x → b ≡ y → x ≤ y → a ≤ b
 le_as e f h = omega arith
@@ -25,7 +25,7 @@ pub turn-later : {i n : ℕ} → i ≤ n → i ≤ n + 1
 turn-later h = omega arith
 
 -- node i's number, and the next
-pub fits-node : {i : ℕ} → i < maxNodes → Fits w64 (i + 1)
+pub fits-node : {i : ℕ} → i < max_nodes → Fits w64 (i + 1)
 fits-node h = record { fits = omega arith }
 
 -- the words and bytes of string i's span

@@ -9,17 +9,17 @@ use lib.Seq.{slice}
 use borrow.Author.Tests.{eqb-false}
 use Rattle.cel_text.specs.Byte.{Text}
 use Rattle.cel_text.specs.Tree.{array, object, function}
-use Rattle.cel_text.specs.Reading.{maxNodes}
-use Rattle.cel_text.specs.Table.{Words, rowWords, kindNumber, stringKind, word}
+use Rattle.cel_text.specs.Reading.{max_nodes}
+use Rattle.cel_text.specs.Table.{Words, row_words, kind_number, string_kind, word}
 use Rattle.cel_policy.specs.Policy.{Span}
-use Rattle.cel_policy.specs.Mapping.{Node, leaf, branch, Nodes, childless, ◌▹◌∶◌, Refusal, good, bad, unexpectedType, element, elements, stringArray}
+use Rattle.cel_policy.specs.Mapping.{Node, leaf, branch, Nodes, childless, ◌▹◌∶◌, Refusal, good, bad, unexpected_type, element, elements, string_array}
 use Rattle.cel_policy.specs.Laws.Counts.{sizes}
-use Rattle.ast_mapping.specs.View.{span_of, spansFrom, stringsOf, nodeAt, number, children, Stands, Held, Tabled}
+use Rattle.ast_mapping.specs.View.{span_of, spans_from, strings_of, node_at, number, children, Stands, Held, Tabled}
 use Rattle.ast_mapping.proofs.View.{no-string, Begins, all, less, begins-none, past, within, later, Child, next-child, last-child}
 
-spans-more : (w : Words) (k n : ℕ) → spansFrom w n k ++ (span_of w (n + k) ∷ []) ≡ spansFrom w n (suc k)
+spans-more : (w : Words) (k n : ℕ) → spans_from w n k ++ (span_of w (n + k) ∷ []) ≡ spans_from w n (suc k)
 spans-more w zero n = rw add-zero
-spans-more w (suc k) n = ap (λ (l : List Span). span_of w n ∷ l) (ap (λ (i : ℕ). spansFrom w (suc n) k ++ (span_of w i ∷ [])) (omega arith) ∙ spans-more w k (suc n))
+spans-more w (suc k) n = ap (λ (l : List Span). span_of w n ∷ l) (ap (λ (i : ℕ). spans_from w (suc n) k ++ (span_of w i ∷ [])) (omega arith) ∙ spans-more w k (suc n))
 
 -- k rows from row a on, and one more
 module _ (a k : ℕ) where
@@ -41,32 +41,32 @@ module _ (a k : ℕ) where
 pub tabled : (w : Words) (x : Text) (n : ℕ) → Held w x n → Tabled w n
 tabled w x n h = record { begun = later w x n h; few = omega (arith, past w x n h, h.small); ended = omega (arith, past w x n h, within w x n h) }
 
-pub tabled-row : {w : Words} {n : ℕ} → Tabled w n → (i : ℕ) → i < word w n 7 → rowWords * suc i ≤ length w
+pub tabled-row : {w : Words} {n : ℕ} → Tabled w n → (i : ℕ) → i < word w n 7 → row_words * suc i ≤ length w
 tabled-row t i h = omega (arith, t.ended)
 
-pub tabled-small : {w : Words} {n : ℕ} → Tabled w n → (i : ℕ) → i < word w n 7 → i < maxNodes
+pub tabled-small : {w : Words} {n : ℕ} → Tabled w n → (i : ℕ) → i < word w n 7 → i < max_nodes
 tabled-small t i h = omega (arith, t.few)
 
 module _ (w : Words) (x : Text) where
-  string-node : (m : Node Span) → Stands m w x → word w (number m) 0 ≡ stringKind → m ≡ leaf (number m) (span_of w (number m))
+  string-node : (m : Node Span) → Stands m w x → word w (number m) 0 ≡ string_kind → m ≡ leaf (number m) (span_of w (number m))
   string-node (leaf n a) h e = ap (leaf n) h.1
-  string-node (branch n c name ns) h e = absurd (eqb-false (kindNumber c) stringKind (no-string c) (sym h.0.kind ∙ e))
+  string-node (branch n c name ns) h e = absurd (eqb-false (kind_number c) string_kind (no-string c) (sym h.0.kind ∙ e))
 
   -- a row of the kind of a string is a string's
-  string-at : (n : ℕ) → Held w x n → word w n 0 ≡ stringKind → nodeAt w x n ≡ leaf n (span_of w n)
+  string-at : (n : ℕ) → Held w x n → word w n 0 ≡ string_kind → node_at w x n ≡ leaf n (span_of w n)
   string-at n h =
-      subst (λ (i : ℕ). word w i 0 ≡ stringKind → nodeAt w x n ≡ leaf i (span_of w i)) h.numbered (string-node (nodeAt w x n) h.stands)
+      subst (λ (i : ℕ). word w i 0 ≡ string_kind → node_at w x n ≡ leaf i (span_of w i)) h.numbered (string-node (node_at w x n) h.stands)
 
   module _ (name : ℕ) where
-    other-element : (m : Node Span) → Stands m w x → (word w (number m) 0 ≡ stringKind → ⊥) → element name m ≡ unexpectedType name stringKind (number m)
+    other-element : (m : Node Span) → Stands m w x → (word w (number m) 0 ≡ string_kind → ⊥) → element name m ≡ unexpected_type name string_kind (number m)
     unfolding element
     other-element (leaf n a) h k = absurd (k h.0.kind)
     other-element (branch n c bytes ns) h k = refl
 
-    other_at : (n : ℕ) → Held w x n → (word w n 0 ≡ stringKind → ⊥) → element name (nodeAt w x n) ≡ unexpectedType name stringKind n
+    other_at : (n : ℕ) → Held w x n → (word w n 0 ≡ string_kind → ⊥) → element name (node_at w x n) ≡ unexpected_type name string_kind n
     other_at n h =
-        subst (λ (i : ℕ). (word w i 0 ≡ stringKind → ⊥) → element name (nodeAt w x n) ≡ unexpectedType name stringKind i) h.numbered
-        (other-element (nodeAt w x n) h.stands)
+        subst (λ (i : ℕ). (word w i 0 ≡ string_kind → ⊥) → element name (node_at w x n) ≡ unexpected_type name string_kind i) h.numbered
+        (other-element (node_at w x n) h.stands)
 
     -- a refusal of some first elements is that of all
     elements-refuse : {ns b : Nodes Span} {r : Refusal} → Begins ns b → elements name b ≡ bad r → elements name ns ≡ bad r
@@ -74,67 +74,67 @@ module _ (w : Words) (x : Text) where
     elements-refuse all e = e
     elements-refuse (less s) e = elements-refuse s (rw e)
 
-    array-node : (m : Node Span) → Stands m w x → word w (number m) 0 ≡ kindNumber array → stringArray name m ≡ elements name (children m)
-    unfolding stringArray
-    array-node (leaf n a) h e = absurd (eqb-false (kindNumber array) stringKind refl (sym e ∙ h.0.kind))
+    array-node : (m : Node Span) → Stands m w x → word w (number m) 0 ≡ kind_number array → string_array name m ≡ elements name (children m)
+    unfolding string_array
+    array-node (leaf n a) h e = absurd (eqb-false (kind_number array) string_kind refl (sym e ∙ h.0.kind))
     array-node (branch n array bytes ns) h e = refl
-    array-node (branch n object bytes ns) h e = absurd (eqb-false (kindNumber array) (kindNumber object) refl (sym e ∙ h.0.kind))
-    array-node (branch n function bytes ns) h e = absurd (eqb-false (kindNumber array) (kindNumber function) refl (sym e ∙ h.0.kind))
+    array-node (branch n object bytes ns) h e = absurd (eqb-false (kind_number array) (kind_number object) refl (sym e ∙ h.0.kind))
+    array-node (branch n function bytes ns) h e = absurd (eqb-false (kind_number array) (kind_number function) refl (sym e ∙ h.0.kind))
 
-    no-array : (m : Node Span) → Stands m w x → (word w (number m) 0 ≡ kindNumber array → ⊥) → unexpectedType name (kindNumber array) (number m) ≡ stringArray name m
-    unfolding stringArray
+    no-array : (m : Node Span) → Stands m w x → (word w (number m) 0 ≡ kind_number array → ⊥) → unexpected_type name (kind_number array) (number m) ≡ string_array name m
+    unfolding string_array
     no-array (leaf n a) h k = refl
     no-array (branch n array bytes ns) h k = absurd (k h.0.kind)
     no-array (branch n object bytes ns) h k = refl
     no-array (branch n function bytes ns) h k = refl
 
     module _ (n : ℕ) (h : Held w x n) where
-      pub wrong-array : (word w n 0 ≡ kindNumber array → ⊥) → unexpectedType name (kindNumber array) n ≡ stringArray name (nodeAt w x n)
+      pub wrong-array : (word w n 0 ≡ kind_number array → ⊥) → unexpected_type name (kind_number array) n ≡ string_array name (node_at w x n)
       wrong-array =
-          subst (λ (i : ℕ). (word w i 0 ≡ kindNumber array → ⊥) → unexpectedType name (kindNumber array) i ≡ stringArray name (nodeAt w x n)) h.numbered
-          (no-array (nodeAt w x n) h.stands)
+          subst (λ (i : ℕ). (word w i 0 ≡ kind_number array → ⊥) → unexpected_type name (kind_number array) i ≡ string_array name (node_at w x n)) h.numbered
+          (no-array (node_at w x n) h.stands)
 
-      right-array : word w n 0 ≡ kindNumber array → stringArray name (nodeAt w x n) ≡ elements name (children (nodeAt w x n))
+      right-array : word w n 0 ≡ kind_number array → string_array name (node_at w x n) ≡ elements name (children (node_at w x n))
       right-array =
-          subst (λ (i : ℕ). word w i 0 ≡ kindNumber array → stringArray name (nodeAt w x n) ≡ elements name (children (nodeAt w x n))) h.numbered
-          (array-node (nodeAt w x n) h.stands)
+          subst (λ (i : ℕ). word w i 0 ≡ kind_number array → string_array name (node_at w x n) ≡ elements name (children (node_at w x n))) h.numbered
+          (array-node (node_at w x n) h.stands)
 
       -- k elements, all of them strings
       record Strings (k : ℕ) : Type 0 where
         before : Nodes Span
-        begins : Begins (children (nodeAt w x n)) before
+        begins : Begins (children (node_at w x n)) before
         count : sizes before ≡ k
-        are : elements name before ≡ good (spansFrom w (suc n) k)
+        are : elements name before ≡ good (spans_from w (suc n) k)
 
-      passed-strings : (k : ℕ) → suc n + k ≤ word w n 7 → ((i : ℕ) → suc n ≤ i → i < suc n + k → word w i 0 ≡ stringKind) → Strings k
+      passed-strings : (k : ℕ) → suc n + k ≤ word w n 7 → ((i : ℕ) → suc n ≤ i → i < suc n + k → word w i 0 ≡ string_kind) → Strings k
       unfolding elements element
-      passed-strings zero l k = record { before = childless; begins = begins-none (children (nodeAt w x n)); count = refl; are = refl }
+      passed-strings zero l k = record { before = childless; begins = begins-none (children (node_at w x n)); count = refl; are = refl }
       passed-strings (suc k) l all-strings =
           let s : Strings k = passed-strings k (rows-less (suc n) k l) (λ i a b. all-strings i a (rows_more (suc n) k b)) in
           let c : Child w x n h s.before (suc n + k) = next-child w x n h s.begins (row-counted (suc n) k s.count).0 (row_last (suc n) k l) in
-          let here : nodeAt w x (suc n + k) ≡ leaf (suc n + k) (span_of w (suc n + k)) = string-at (suc n + k) c.is (all-strings (suc n + k) (row-between (suc n) k).0 (row-between (suc n) k).1) in
+          let here : node_at w x (suc n + k) ≡ leaf (suc n + k) (span_of w (suc n + k)) = string-at (suc n + k) c.is (all-strings (suc n + k) (row-between (suc n) k).0 (row-between (suc n) k).1) in
           record {
-            before = s.before ▹ slice (word w (suc n + k) 3) (word w (suc n + k) 4) x ∶ nodeAt w x (suc n + k);
+            before = s.before ▹ slice (word w (suc n + k) 3) (word w (suc n + k) 4) x ∶ node_at w x (suc n + k);
             begins = c.begins;
             count = rw here (row-counted (suc n) k s.count).1;
             are = rw (here, s.are) (ap good (spans-more w k (suc n)));
           }
 
       -- all elements from the first up to number `next` are strings
-      module _ (kind : word w n 0 ≡ kindNumber array) (next : ℕ) (first : suc n ≤ next) (are : (i : ℕ) → suc n ≤ i → i < next → word w i 0 ≡ stringKind) where
+      module _ (kind : word w n 0 ≡ kind_number array) (next : ℕ) (first : suc n ≤ next) (are : (i : ℕ) → suc n ≤ i → i < next → word w i 0 ≡ string_kind) where
         passed : next ≤ word w n 7 → Strings (next - suc n)
         passed l = passed-strings (next - suc n) (omega arith) (λ i a b. are i a (omega arith))
 
         -- and there are no more
-        pub all-strings : next ≡ word w n 7 → good (stringsOf w n) ≡ stringArray name (nodeAt w x n)
+        pub all-strings : next ≡ word w n 7 → good (strings_of w n) ≡ string_array name (node_at w x n)
         all-strings e =
             let s : Strings (next - suc n) = passed (omega arith) in
             let place : next ≡ suc n + sizes s.before = omega (arith, s.count) in
-            let every : s.before ≡ children (nodeAt w x n) = last-child w x n h s.begins place (omega arith) in
-            ap (λ (end : ℕ). good (spansFrom w (suc n) (end - suc n))) (sym e) ∙ sym s.are ∙ ap (elements name) every ∙ sym (right-array kind)
+            let every : s.before ≡ children (node_at w x n) = last-child w x n h s.begins place (omega arith) in
+            ap (λ (end : ℕ). good (spans_from w (suc n) (end - suc n))) (sym e) ∙ sym s.are ∙ ap (elements name) every ∙ sym (right-array kind)
 
         -- and the next is none
-        pub no-string-at : next < word w n 7 → (word w next 0 ≡ stringKind → ⊥) → unexpectedType name stringKind next ≡ stringArray name (nodeAt w x n)
+        pub no-string-at : next < word w n 7 → (word w next 0 ≡ string_kind → ⊥) → unexpected_type name string_kind next ≡ string_array name (node_at w x n)
         unfolding elements
         no-string-at l d =
             let s : Strings (next - suc n) = passed (omega arith) in

@@ -10,52 +10,52 @@ use lib.Seq.{sets, sets-eq, length-sets, length-take-le, take_all, take_at, drop
 use borrow.Author.Tests.{lt-ltb, le-ltb, ne_eqb, le-leb}
 use Rattle.cel_text.specs.Byte.{Text}
 use Rattle.cel_text.specs.Tree.{Tree}
-use Rattle.cel_text.specs.Reading.{accepted, refused, read, limits, maxNodes, Fault}
-use Rattle.cel_text.specs.Table.{Words, Left, untouched, cleared, filled, rows, hold, holdOver, nodesLeft, nodeWords}
-use Rattle.cel_text.specs.Answer.{Found, tree, fault, findTree, answered, nodesAfter, treeAnswer, Answer as TreeAnswer, faultNumber}
+use Rattle.cel_text.specs.Reading.{accepted, refused, read, limits, max_nodes, Fault}
+use Rattle.cel_text.specs.Table.{Words, Left, untouched, cleared, filled, rows, hold, hold_over, nodes_left, node_words}
+use Rattle.cel_text.specs.Answer.{Found, tree, fault, find_tree, answered, nodes_after, tree_answer, Answer as TreeAnswer, fault_number}
 use Rattle.cel_text.specs.Laws.Table.{hold-front}
-use Rattle.cel_policy.specs.Policy.{Span, Policy, Counted, counted, stringCount, noPolicy, allStrings, numbers}
-use Rattle.cel_policy.specs.Printed.{maxResponseOnly}
+use Rattle.cel_policy.specs.Policy.{Span, Policy, Counted, counted, string_count, no_policy, all_strings, numbers}
+use Rattle.cel_policy.specs.Printed.{max_response_only}
 use Rattle.cel_policy.specs.Mapping.{Node, Mapped, good, bad, node_of, mapping}
-use Rattle.cel_policy.specs.Spans.{spanRows, spanWords, spanTable, spansLeft}
-use Rattle.cel_policy.specs.Answers.{unread, judged, mapTree, findPolicy, PolicyAnswer, policyAnswered, nodesHeld, spansHeld, policyAnswer}
+use Rattle.cel_policy.specs.Spans.{span_rows, span_words, span_table, spans_left}
+use Rattle.cel_policy.specs.Answers.{unread, judged, map_tree, find_policy, PolicyAnswer, policy_answered, nodes_held, spans_held, policy_answer}
 use Rattle.cel_policy.specs.Laws.Shape.{Shape, skips, certifies}
 use Rattle.cel_policy.specs.Laws.Counts.{size, Meets, OfMapping, meets-mapping}
-use Rattle.cel_text.specs.Laws.Find.{FindsTree, finds, too_short, too_long, not_ascii, broken, whole, faultNumber-range}
-use Rattle.cel_policy.specs.Laws.SpanTable.{length-spanRows}
+use Rattle.cel_text.specs.Laws.Find.{FindsTree, finds, too_short, too_long, not_ascii, broken, whole, fault_number-range}
+use Rattle.cel_policy.specs.Laws.SpanTable.{length-span_rows}
 use Rattle.parser.specs.Found.{told}
-use Rattle.parser.specs.Set.{stringSet}
+use Rattle.parser.specs.Set.{string_set}
 use Rattle.parser.specs.declared.Answer.{Answer}
-use Rattle.parser.proofs.Answers.{clearedFrom, clear-all}
+use Rattle.parser.proofs.Answers.{cleared_from, clear-all}
 use Rattle.ast_mapping.specs.declared.PolicyAnswer.{PolicyAnswer as Told-answer}
-use Rattle.ast_mapping.specs.View.{nodeAt, Held}
-use Rattle.ast_mapping.specs.Spans.{policyTold, stringsIn, countsIn, spareFrom, settledAnswer, Settled, TreeMapped}
+use Rattle.ast_mapping.specs.View.{node_at, Held}
+use Rattle.ast_mapping.specs.Spans.{policy_told, strings_in, counts_in, spare_from, settled_answer, Settled, TreeMapped}
 use Rattle.ast_mapping.proofs.Written.{Rooted, rooted}
 
 -- ---- what reading a tree can find
 
-faultNumber-low : (f : Fault) → (1 ≤ faultNumber f) × (faultNumber f ≤ 6)
-faultNumber-low f = omega (arith, faultNumber-range f)
+fault_number-low : (f : Fault) → (1 ≤ fault_number f) × (fault_number f ≤ 6)
+fault_number-low f = omega (arith, fault_number-range f)
 
 module _ (w : ℕ) (x : Text) where
   -- a tree is what the text reads as; a fault has a number of 1 to 6
   abbrev Right : Found → Type 0
-  Right (tree t q) = read stringSet limits x ≡ accepted t q
+  Right (tree t q) = read string_set limits x ≡ accepted t q
   Right (fault r p) = (1 ≤ r) × (r ≤ 6)
 
-  right : Right (findTree stringSet w x)
-  right = by (finds stringSet w x)
+  right : Right (find_tree string_set w x)
+  right = by (finds string_set w x)
     where
-      by : {f : Found} → FindsTree stringSet w x f → Right f
+      by : {f : Found} → FindsTree string_set w x f → Right f
       by (too_short a) = omega arith
       by (too_long a b) = omega arith
       by (not_ascii a b c) = omega arith
-      by (broken {f = f} p e) = faultNumber-low f
+      by (broken {f = f} p e) = fault_number-low f
       by (whole p e) = e
 
 -- ---- what the mapping can give
 
-shape-few : {p : Policy Span} → Shape p → length (allStrings p) ≤ maxResponseOnly
+shape-few : {p : Policy Span} → Shape p → length (all_strings p) ≤ max_response_only
 shape-few skips = omega arith
 shape-few (certifies none l h) = h
 shape-few (certifies (some r) l h) = simp length-append (omega arith)
@@ -64,27 +64,27 @@ abbrev Refusing : Mapped (Policy Span) → Type 0
 Refusing (good p) = Unit {0}
 Refusing (bad r) = OfMapping r.refusal
 
-module _ (root : Node Span) (small : size root ≤ maxNodes) where
-  pub mapped-few : (m : Mapped (Policy Span)) → m ≡ mapping root → length (stringsIn m) ≤ maxResponseOnly
+module _ (root : Node Span) (small : size root ≤ max_nodes) where
+  pub mapped-few : (m : Mapped (Policy Span)) → m ≡ mapping root → length (strings_in m) ≤ max_response_only
   mapped-few m e = by m (subst (Meets _) (sym e) (meets-mapping root))
     where
-      by : (m : Mapped (Policy Span)) → Meets (λ (p : Policy Span). size root ≤ maxNodes → Shape p) m → length (stringsIn m) ≤ maxResponseOnly
+      by : (m : Mapped (Policy Span)) → Meets (λ (p : Policy Span). size root ≤ max_nodes → Shape p) m → length (strings_in m) ≤ max_response_only
       by (good p) h = shape-few (h small)
       by (bad r) h = omega arith
 
   mapped-refusing : (m : Mapped (Policy Span)) → m ≡ mapping root → Refusing m
   mapped-refusing m e = by m (subst (Meets _) (sym e) (meets-mapping root))
     where
-      by : (m : Mapped (Policy Span)) → Meets (λ (p : Policy Span). size root ≤ maxNodes → Shape p) m → Refusing m
+      by : (m : Mapped (Policy Span)) → Meets (λ (p : Policy Span). size root ≤ max_nodes → Shape p) m → Refusing m
       by (good p) h = tt
       by (bad r) h = h
 
-pub root-small : {w : Words} {x : Text} → Held w x 0 → size (nodeAt w x 0) ≤ maxNodes
+pub root-small : {w : Words} {x : Text} → Held w x 0 → size (node_at w x 0) ≤ max_nodes
 root-small h = omega (arith, h.small)
 
 -- ---- what is left of the tables
 
-left-filled : (r : ℕ) → OfMapping r → nodesLeft r ≡ filled
+left-filled : (r : ℕ) → OfMapping r → nodes_left r ≡ filled
 left-filled r h =
     let some : r ≡ 0 → ⊥ = λ e. omega (arith, h.0) in
     let more : r ≡ 1 → ⊥ = λ e. omega (arith, h.0) in
@@ -95,7 +95,7 @@ Unfilled untouched = Unit {0}
 Unfilled cleared = Unit {0}
 Unfilled filled = ⊥
 
-left-unfilled : (r : ℕ) → 1 ≤ r → Unfilled (spansLeft r)
+left-unfilled : (r : ℕ) → 1 ≤ r → Unfilled (spans_left r)
 left-unfilled zero h = absurd (omega arith)
 left-unfilled (suc zero) h = tt
 left-unfilled (suc (suc r)) h =
@@ -109,12 +109,12 @@ pub record Way (holding : Left → ℕ → Words → Words → Words) (end : Cou
   pub clears : (n : ℕ) (ws w : Words) → holding cleared n ws w ≡ replicate n 0 ++ drop n w
   pub begins : (n : ℕ) (ws w : Words) → (rest : Words) × (holding filled n ws w ≡ ws ++ rest)
   pub front : (l : Left) (n : ℕ) (ws w : Words) → length ws ≤ n → n ≤ length w → holding l n ws (take n w) ++ drop n w ≡ holding l n ws w
-  pub fills : (p : Policy Span) (s : Words) → length s ≡ spanWords → length (spanTable p) ≤ spanWords
-      → clearedFrom (sets s 0 (spanTable p)) (end (counted p)) ≡ holding filled spanWords (spanTable p) s
+  pub fills : (p : Policy Span) (s : Words) → length s ≡ span_words → length (span_table p) ≤ span_words
+      → cleared_from (sets s 0 (span_table p)) (end (counted p)) ≡ holding filled span_words (span_table p) s
 
 -- the strings, then zeros
-pub zeros : Way hold (λ (k : Counted). 2 * stringCount k)
-unfolding spanTable
+pub zeros : Way hold (λ (k : Counted). 2 * string_count k)
+unfolding span_table
 zeros =
     record {
       untouches = λ n ws w. refl;
@@ -124,21 +124,21 @@ zeros =
       fills = fill;
     }
   where
-    fill : (p : Policy Span) (s : Words) → length s ≡ spanWords → length (spanTable p) ≤ spanWords
-        → clearedFrom (sets s 0 (spanTable p)) (2 * stringCount (counted p)) ≡ hold filled spanWords (spanTable p) s
+    fill : (p : Policy Span) (s : Words) → length s ≡ span_words → length (span_table p) ≤ span_words
+        → cleared_from (sets s 0 (span_table p)) (2 * string_count (counted p)) ≡ hold filled span_words (span_table p) s
     fill p s long h =
-        let rows : Words = spanRows (allStrings p) in
-        let count : stringCount (counted p) ≡ length (allStrings p) = simp length-append (omega arith) in
-        let size : length rows ≡ 2 * stringCount (counted p) = length-spanRows (allStrings p) ∙ ap (λ (n : ℕ). 2 * n) (sym count) in
+        let rows : Words = span_rows (all_strings p) in
+        let count : string_count (counted p) ≡ length (all_strings p) = simp length-append (omega arith) in
+        let size : length rows ≡ 2 * string_count (counted p) = length-span_rows (all_strings p) ∙ ap (λ (n : ℕ). 2 * n) (sym count) in
         let fits : 0 + length rows ≤ length s = omega arith in
-        let long' : length (sets s 0 rows) ≡ spanWords = length-sets s 0 rows ∙ long in
-        let front : take (2 * stringCount (counted p)) (sets s 0 rows) ≡ rows
-        = rw (sets-eq rows s 0 fits) (take_at rows (drop (0 + length rows) s) (2 * stringCount (counted p)) size) in
-        let none : drop spanWords s ≡ [] = drop_of_length-le s {i = spanWords} (omega arith) in
+        let long' : length (sets s 0 rows) ≡ span_words = length-sets s 0 rows ∙ long in
+        let front : take (2 * string_count (counted p)) (sets s 0 rows) ≡ rows
+        = rw (sets-eq rows s 0 fits) (take_at rows (drop (0 + length rows) s) (2 * string_count (counted p)) size) in
+        let none : drop span_words s ≡ [] = drop_of_length-le s {i = span_words} (omega arith) in
         rw (front, long', sym size, none, append-nil)
 
 -- the strings, then the words as lent
-pub lent : Way holdOver (λ (k : Counted). spanWords)
+pub lent : Way hold_over (λ (k : Counted). span_words)
 lent =
     record {
       untouches = λ n ws w. refl;
@@ -148,7 +148,7 @@ lent =
       fills = fill;
     }
   where
-    over-front : (l : Left) (n : ℕ) (ws w : Words) → length ws ≤ n → n ≤ length w → holdOver l n ws (take n w) ++ drop n w ≡ holdOver l n ws w
+    over-front : (l : Left) (n : ℕ) (ws w : Words) → length ws ≤ n → n ≤ length w → hold_over l n ws (take n w) ++ drop n w ≡ hold_over l n ws w
     over-front untouched n ws w h long = hold-front untouched n ws w
     over-front cleared n ws w h long = hold-front cleared n ws w
     over-front filled n ws w h long =
@@ -156,141 +156,141 @@ lent =
         append_assoc ws (drop (length ws) (take n w)) (drop n w)
         ∙ ap (λ (l : Words). ws ++ l) (sym (drop-append-le (length ws) (take n w) (drop n w) inside) ∙ ap (drop (length ws)) (take-append-drop n w))
 
-    fill : (p : Policy Span) (s : Words) → length s ≡ spanWords → length (spanTable p) ≤ spanWords
-        → clearedFrom (sets s 0 (spanTable p)) spanWords ≡ holdOver filled spanWords (spanTable p) s
+    fill : (p : Policy Span) (s : Words) → length s ≡ span_words → length (span_table p) ≤ span_words
+        → cleared_from (sets s 0 (span_table p)) span_words ≡ hold_over filled span_words (span_table p) s
     fill p s long h =
-        let rows : Words = spanTable p in
+        let rows : Words = span_table p in
         let fits : 0 + length rows ≤ length s = omega arith in
-        let long' : length (sets s 0 rows) ≡ spanWords = length-sets s 0 rows ∙ long in
-        let none : length (sets s 0 rows) - spanWords ≡ 0 = omega arith in
-        rw (none, take_all spanWords (sets s 0 rows) (omega arith), append-nil) (sets-eq rows s 0 fits ∙ ap (λ (n : ℕ). rows ++ drop n s) (zero-add (length rows)))
+        let long' : length (sets s 0 rows) ≡ span_words = length-sets s 0 rows ∙ long in
+        let none : length (sets s 0 rows) - span_words ≡ 0 = omega arith in
+        rw (none, take_all span_words (sets s 0 rows) (omega arith), append-nil) (sets-eq rows s 0 fits ∙ ap (λ (n : ℕ). rows ++ drop n s) (zero-add (length rows)))
 
 -- ---- reading a policy
 
 module _ (holding : Left → ℕ → Words → Words → Words) (end : Counted → ℕ) (way : Way holding end) (x : Text) where
   -- a refusal of the counted words s alone
-  spare-kept : (l : Left) → Unfilled l → (s : Words) → length s ≡ spanWords → (i : ℕ) → clearedFrom s (spareFrom l i) ≡ holding l spanWords [] s
+  spare-kept : (l : Left) → Unfilled l → (s : Words) → length s ≡ span_words → (i : ℕ) → cleared_from s (spare_from l i) ≡ holding l span_words [] s
   spare-kept untouched h s long i =
-      let none : length s - spanWords ≡ 0 = omega arith in
-      rw (none, take_all spanWords s (omega arith), append-nil s) (sym (way.untouches spanWords [] s))
+      let none : length s - span_words ≡ 0 = omega arith in
+      rw (none, take_all span_words s (omega arith), append-nil s) (sym (way.untouches span_words [] s))
   spare-kept cleared h s long i =
-      let none : drop spanWords s ≡ [] = drop_of_length-le s {i = spanWords} (omega arith) in
-      clear-all s spanWords long
-      ∙ sym (way.clears spanWords [] s ∙ ap (λ (l : Words). replicate spanWords 0 ++ l) none ∙ append-nil (replicate spanWords 0))
+      let none : drop span_words s ≡ [] = drop_of_length-le s {i = span_words} (omega arith) in
+      clear-all s span_words long
+      ∙ sym (way.clears span_words [] s ∙ ap (λ (l : Words). replicate span_words 0 ++ l) none ∙ append-nil (replicate span_words 0))
   spare-kept filled h s long i = absurd h
 
-  settled-spans : (t : Tree) (q : ℕ) (m : Mapped (Policy Span)) → Refusing m → length (stringsIn m) ≤ maxResponseOnly → (s : Words) → length s ≡ spanWords
-      → clearedFrom (sets s 0 (spanRows (stringsIn m))) (spareFrom (spansLeft (settledAnswer (answered (tree t q)) m).refusal) (end (countsIn m)))
-      ≡ spansHeld holding (judged t m) s
-  unfolding spanTable
-  settled-spans t q (good p) h few s long = way.fills p s long (omega (arith, length-spanRows (allStrings p)))
-  settled-spans t q (bad r) h few s long = spare-kept (spansLeft r.refusal) (left-unfilled r.refusal (omega (arith, h.0))) s long (end noPolicy)
+  settled-spans : (t : Tree) (q : ℕ) (m : Mapped (Policy Span)) → Refusing m → length (strings_in m) ≤ max_response_only → (s : Words) → length s ≡ span_words
+      → cleared_from (sets s 0 (span_rows (strings_in m))) (spare_from (spans_left (settled_answer (answered (tree t q)) m).refusal) (end (counts_in m)))
+      ≡ spans_held holding (judged t m) s
+  unfolding span_table
+  settled-spans t q (good p) h few s long = way.fills p s long (omega (arith, length-span_rows (all_strings p)))
+  settled-spans t q (bad r) h few s long = spare-kept (spans_left r.refusal) (left-unfilled r.refusal (omega (arith, h.0))) s long (end no_policy)
 
-  settled-nodes : (t : Tree) (m : Mapped (Policy Span)) → Refusing m → (w : Words) → holding filled nodeWords (rows t) w ≡ nodesHeld holding (judged t m) w
+  settled-nodes : (t : Tree) (m : Mapped (Policy Span)) → Refusing m → (w : Words) → holding filled node_words (rows t) w ≡ nodes_held holding (judged t m) w
   settled-nodes t (good p) h w = refl
   settled-nodes t (bad r) h w = rw (left-filled r.refusal h)
 
   settled-answer : (t : Tree) (q : ℕ) (m : Mapped (Policy Span))
-      → record { answer = settledAnswer (answered (tree t q)) m; policy = countsIn m } ≡ policyAnswered (judged t m)
+      → record { answer = settled_answer (answered (tree t q)) m; policy = counts_in m } ≡ policy_answered (judged t m)
   settled-answer t q (good p) = refl
   settled-answer t q (bad r) = refl
 
-  spans-front : (t : Tree) (m : Mapped (Policy Span)) → length (stringsIn m) ≤ maxResponseOnly → (s : Words) → spanWords ≤ length s
-      → spansHeld holding (judged t m) (take spanWords s) ++ drop spanWords s ≡ spansHeld holding (judged t m) s
-  unfolding spanTable
-  spans-front t (good p) few s long = way.front filled spanWords (spanTable p) s (omega (arith, length-spanRows (allStrings p))) long
-  spans-front t (bad r) few s long = way.front (spansLeft r.refusal) spanWords [] s (omega arith) long
+  spans-front : (t : Tree) (m : Mapped (Policy Span)) → length (strings_in m) ≤ max_response_only → (s : Words) → span_words ≤ length s
+      → spans_held holding (judged t m) (take span_words s) ++ drop span_words s ≡ spans_held holding (judged t m) s
+  unfolding span_table
+  spans-front t (good p) few s long = way.front filled span_words (span_table p) s (omega (arith, length-span_rows (all_strings p))) long
+  spans-front t (bad r) few s long = way.front (spans_left r.refusal) span_words [] s (omega arith) long
 
   module _ (nodes spans : Words) where
     abbrev pub Ensured : (nodes' spans' : Words) → Told-answer → Type 0
     Ensured nodes' spans' r =
-        (policyTold r ≡ policyAnswer (length nodes) (length spans) x)
-        × ((nodes' ≡ nodesHeld holding (findPolicy stringSet (length nodes) (length spans) x) nodes)
-        × (spans' ≡ spansHeld holding (findPolicy stringSet (length nodes) (length spans) x) spans))
+        (policy_told r ≡ policy_answer (length nodes) (length spans) x)
+        × ((nodes' ≡ nodes_held holding (find_policy string_set (length nodes) (length spans) x) nodes)
+        × (spans' ≡ spans_held holding (find_policy string_set (length nodes) (length spans) x) spans))
 
-    pub ensured-short : {r : Told-answer} → length spans < spanWords → policyTold r ≡ policyAnswered (unread 1 0) → Ensured nodes spans r
-    unfolding policyAnswer
+    pub ensured-short : {r : Told-answer} → length spans < span_words → policy_told r ≡ policy_answered (unread 1 0) → Ensured nodes spans r
+    unfolding policy_answer
     ensured-short h e =
-        rw (lt-ltb (length spans) spanWords h) (e, (sym (way.untouches nodeWords [] nodes), sym (way.untouches spanWords [] spans)))
+        rw (lt-ltb (length spans) span_words h) (e, (sym (way.untouches node_words [] nodes), sym (way.untouches span_words [] spans)))
 
     -- the same where f is what reading the tree found
     record Reads (f : Found) (nodes' spans' : Words) (r : Told-answer) : Type 0 where
-      answer : policyTold r ≡ policyAnswered (mapTree x f)
-      table : nodes' ≡ nodesHeld holding (mapTree x f) nodes
-      spanned : spans' ≡ spansHeld holding (mapTree x f) spans
+      answer : policy_told r ≡ policy_answered (map_tree x f)
+      table : nodes' ≡ nodes_held holding (map_tree x f) nodes
+      spanned : spans' ≡ spans_held holding (map_tree x f) spans
 
-    module _ (long : spanWords ≤ length spans) (a : Answer) (nodes' : Words) where
+    module _ (long : span_words ≤ length spans) (a : Answer) (nodes' : Words) where
       -- the counted words of the span table
       abbrev front : Words
-      front = take spanWords spans
+      front = take span_words spans
 
-      front_long : length front ≡ spanWords
-      front_long = length-take-le spanWords spans long
+      front_long : length front ≡ span_words
+      front_long = length-take-le span_words spans long
 
-      refused-reads : (n p : ℕ) → 1 ≤ n → told a ≡ answered (fault n p) → nodes' ≡ nodesAfter holding (fault n p) nodes
+      refused-reads : (n p : ℕ) → 1 ≤ n → told a ≡ answered (fault n p) → nodes' ≡ nodes_after holding (fault n p) nodes
           → (r : Told-answer) (s' : Words) → TreeMapped x a nodes' front s' r
-          → Reads (fault n p) nodes' (clearedFrom s' (spareFrom (spansLeft r.answer.refusal) (end (numbers r.policy))) ++ drop spanWords spans) r
+          → Reads (fault n p) nodes' (cleared_from s' (spare_from (spans_left r.answer.refusal) (end (numbers r.policy))) ++ drop span_words spans) r
       refused-reads n p h e k r s' m =
           let number : a.refusal ≡ n = ap (λ (b : TreeAnswer). b.refusal) e in
           let f = m.refused (λ z. omega arith) in
           let same : r.answer.refusal ≡ n = ap (λ (b : PolicyAnswer). b.answer.refusal) f.0 ∙ number in
           record {
-            answer = f.0 ∙ ap (λ (b : TreeAnswer). record { answer = b; policy = noPolicy }) e;
+            answer = f.0 ∙ ap (λ (b : TreeAnswer). record { answer = b; policy = no_policy }) e;
             table = k;
             spanned =
-                rw (f.1, same, spare-kept (spansLeft n) (left-unfilled n h) front front_long (end (numbers r.policy)))
-                (way.front (spansLeft n) spanWords [] spans (omega arith) long);
+                rw (f.1, same, spare-kept (spans_left n) (left-unfilled n h) front front_long (end (numbers r.policy)))
+                (way.front (spans_left n) span_words [] spans (omega arith) long);
           }
 
-      settled-reads : (t : Tree) (q : ℕ) → told a ≡ answered (tree t q) → nodes' ≡ nodesAfter holding (tree t q) nodes
-          → (m : Mapped (Policy Span)) → m ≡ mapping (node_of x t 0) → Refusing m → length (stringsIn m) ≤ maxResponseOnly
+      settled-reads : (t : Tree) (q : ℕ) → told a ≡ answered (tree t q) → nodes' ≡ nodes_after holding (tree t q) nodes
+          → (m : Mapped (Policy Span)) → m ≡ mapping (node_of x t 0) → Refusing m → length (strings_in m) ≤ max_response_only
           → (r : Told-answer) (s' : Words) → Settled m a front s' r
-          → Reads (tree t q) nodes' (clearedFrom s' (spareFrom (spansLeft r.answer.refusal) (end (numbers r.policy))) ++ drop spanWords spans) r
+          → Reads (tree t q) nodes' (cleared_from s' (spare_from (spans_left r.answer.refusal) (end (numbers r.policy))) ++ drop span_words spans) r
       settled-reads t q e k m is h few r s' s =
-          let told-answer : policyTold r ≡ record { answer = settledAnswer (answered (tree t q)) m; policy = countsIn m }
-          = s.answer ∙ ap (λ (b : TreeAnswer). record { answer = settledAnswer b m; policy = countsIn m }) e in
-          let number : r.answer.refusal ≡ (settledAnswer (answered (tree t q)) m).refusal = ap (λ (b : PolicyAnswer). b.answer.refusal) told-answer in
-          let counts : numbers r.policy ≡ countsIn m = ap (λ (b : PolicyAnswer). b.policy) told-answer in
+          let told-answer : policy_told r ≡ record { answer = settled_answer (answered (tree t q)) m; policy = counts_in m }
+          = s.answer ∙ ap (λ (b : TreeAnswer). record { answer = settled_answer b m; policy = counts_in m }) e in
+          let number : r.answer.refusal ≡ (settled_answer (answered (tree t q)) m).refusal = ap (λ (b : PolicyAnswer). b.answer.refusal) told-answer in
+          let counts : numbers r.policy ≡ counts_in m = ap (λ (b : PolicyAnswer). b.policy) told-answer in
           record {
-            answer = told-answer ∙ settled-answer t q m ∙ ap (λ (n : Mapped (Policy Span)). policyAnswered (judged t n)) is;
-            table = k ∙ settled-nodes t m h nodes ∙ ap (λ (n : Mapped (Policy Span)). nodesHeld holding (judged t n) nodes) is;
+            answer = told-answer ∙ settled-answer t q m ∙ ap (λ (n : Mapped (Policy Span)). policy_answered (judged t n)) is;
+            table = k ∙ settled-nodes t m h nodes ∙ ap (λ (n : Mapped (Policy Span)). nodes_held holding (judged t n) nodes) is;
             spanned =
                 rw (s.rows, number, counts, settled-spans t q m h few front front_long) (spans-front t m few spans long)
-                ∙ ap (λ (n : Mapped (Policy Span)). spansHeld holding (judged t n) spans) is;
+                ∙ ap (λ (n : Mapped (Policy Span)). spans_held holding (judged t n) spans) is;
           }
 
-      module _ (e : told a ≡ treeAnswer (length nodes) x) (k : nodes' ≡ nodesAfter holding (findTree stringSet (length nodes) x) nodes) where
-        held_by : (f : Found) → Right (length nodes) x f → told a ≡ answered f → nodes' ≡ nodesAfter holding f nodes → a.refusal ≡ 0
+      module _ (e : told a ≡ tree_answer (length nodes) x) (k : nodes' ≡ nodes_after holding (find_tree string_set (length nodes) x) nodes) where
+        held_by : (f : Found) → Right (length nodes) x f → told a ≡ answered f → nodes' ≡ nodes_after holding f nodes → a.refusal ≡ 0
             → (t : Tree) × (q : ℕ) × (f ≡ tree t q) × Rooted nodes' x t
-        held_by (tree t q) h e k z = let b = way.begins nodeWords (rows t) nodes in (t, q, refl, rooted stringSet x t q h nodes' b.0 (k ∙ b.1))
+        held_by (tree t q) h e k z = let b = way.begins node_words (rows t) nodes in (t, q, refl, rooted string_set x t q h nodes' b.0 (k ∙ b.1))
         held_by (fault n p) h e k z = absurd (omega (arith, h.0, ap (λ (b : TreeAnswer). b.refusal) e))
 
-        root-found : a.refusal ≡ 0 → (t : Tree) × (q : ℕ) × (findTree stringSet (length nodes) x ≡ tree t q) × Rooted nodes' x t
-        unfolding treeAnswer
-        root-found z = held_by (findTree stringSet (length nodes) x) (right (length nodes) x) e k z
+        root-found : a.refusal ≡ 0 → (t : Tree) × (q : ℕ) × (find_tree string_set (length nodes) x ≡ tree t q) × Rooted nodes' x t
+        unfolding tree_answer
+        root-found z = held_by (find_tree string_set (length nodes) x) (right (length nodes) x) e k z
 
         pub root-held : a.refusal ≡ 0 → Held nodes' x 0
         root-held z = (root-found z).3.root
 
-        mapped-reads : (f : Found) → Right (length nodes) x f → told a ≡ answered f → nodes' ≡ nodesAfter holding f nodes
+        mapped-reads : (f : Found) → Right (length nodes) x f → told a ≡ answered f → nodes' ≡ nodes_after holding f nodes
             → (r : Told-answer) (s' : Words) → TreeMapped x a nodes' front s' r
-            → Reads f nodes' (clearedFrom s' (spareFrom (spansLeft r.answer.refusal) (end (numbers r.policy))) ++ drop spanWords spans) r
+            → Reads f nodes' (cleared_from s' (spare_from (spans_left r.answer.refusal) (end (numbers r.policy))) ++ drop span_words spans) r
         mapped-reads (fault n p) h e k r s' m = refused-reads n p h.0 e k r s' m
         mapped-reads (tree t q) h e k r s' m =
             let z : a.refusal ≡ 0 = ap (λ (b : TreeAnswer). b.refusal) e in
-            let b = way.begins nodeWords (rows t) nodes in
-            let root : Rooted nodes' x t = rooted stringSet x t q h nodes' b.0 (k ∙ b.1) in
-            let small : size (nodeAt nodes' x 0) ≤ maxNodes = root-small root.root in
-            settled-reads t q e k (mapping (nodeAt nodes' x 0)) (ap mapping root.is) (mapped-refusing (nodeAt nodes' x 0) small _ refl)
-            (mapped-few (nodeAt nodes' x 0) small _ refl) r s' (m.accepted z)
+            let b = way.begins node_words (rows t) nodes in
+            let root : Rooted nodes' x t = rooted string_set x t q h nodes' b.0 (k ∙ b.1) in
+            let small : size (node_at nodes' x 0) ≤ max_nodes = root-small root.root in
+            settled-reads t q e k (mapping (node_at nodes' x 0)) (ap mapping root.is) (mapped-refusing (node_at nodes' x 0) small _ refl)
+            (mapped-few (node_at nodes' x 0) small _ refl) r s' (m.accepted z)
 
         -- v is what clearing leaves of the counted words
         pub ensured : (r : Told-answer) (s' : Words) → TreeMapped x a nodes' front s' r → length s' ≡ length front
-            → (i : ℕ) → i ≡ spareFrom (spansLeft r.answer.refusal) (end (numbers r.policy))
-            → (v : Words) → v ≡ clearedFrom (take spanWords (s' ++ drop spanWords spans)) i → Ensured nodes' (v ++ drop spanWords (s' ++ drop spanWords spans)) r
-        unfolding policyAnswer treeAnswer
+            → (i : ℕ) → i ≡ spare_from (spans_left r.answer.refusal) (end (numbers r.policy))
+            → (v : Words) → v ≡ cleared_from (take span_words (s' ++ drop span_words spans)) i → Ensured nodes' (v ++ drop span_words (s' ++ drop span_words spans)) r
+        unfolding policy_answer tree_answer
         ensured r s' m same i c v u =
-            let whole : length s' ≡ spanWords = same ∙ front_long in
-            let f = mapped-reads (findTree stringSet (length nodes) x) (right (length nodes) x) e k r s' m in
-            rw (le-ltb (length spans) spanWords long, u, take_at s' (drop spanWords spans) spanWords whole, drop_at s' (drop spanWords spans) spanWords whole, c)
+            let whole : length s' ≡ span_words = same ∙ front_long in
+            let f = mapped-reads (find_tree string_set (length nodes) x) (right (length nodes) x) e k r s' m in
+            rw (le-ltb (length spans) span_words long, u, take_at s' (drop span_words spans) span_words whole, drop_at s' (drop span_words spans) span_words whole, c)
             (f.answer, (f.table, f.spanned))

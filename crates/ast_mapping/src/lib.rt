@@ -7,12 +7,12 @@ mod row;
 mod span;
 
 ghost use Rattle.std.specs.Prelude.{◌≡◌, length};
-ghost use Rattle.cel_policy.specs.Policy.{noPolicy};
-ghost use Rattle.cel_policy.specs.Spans.{spanWords};
-ghost use Rattle.cel_policy.specs.Answers.{unread, policyAnswered, policyAnswer, policyNodes, policySpans, policyNodesOver, policySpansOver};
+ghost use Rattle.cel_policy.specs.Policy.{no_policy};
+ghost use Rattle.cel_policy.specs.Spans.{span_words};
+ghost use Rattle.cel_policy.specs.Answers.{unread, policy_answered, policy_answer, policy_nodes, policy_spans, policy_nodes_over, policy_spans_over};
 ghost use Rattle.parser.specs.Found.{told};
 ghost use Rattle.ast_mapping.specs.View.{Held};
-ghost use Rattle.ast_mapping.specs.Spans.{policyTold, TreeMapped};
+ghost use Rattle.ast_mapping.specs.Spans.{policy_told, TreeMapped};
 
 use cel_policy::Policy;
 use parser::{ACCEPTED, Answer};
@@ -29,9 +29,9 @@ pub const SPAN_WORDS: usize = 512;
 // Reads the text and maps its tree. Where a table is too short neither is touched; of longer ones the first 2,048 and 512 words count,
 // and those after the rows and after the strings are 0.
 pub fn read_policy(text: &[u8], nodes: &mut [u32], spans: &mut [u32]) -> PolicyAnswer
-    ensures answer { policyTold result ≡ policyAnswer (length nodes.old) (length spans.old) text.now }
-    ensures nodes { nodes.new ≡ policyNodes text.now nodes.old spans.old }
-    ensures spans { spans.new ≡ policySpans text.now nodes.old spans.old }
+    ensures answer { policy_told result ≡ policy_answer (length nodes.old) (length spans.old) text.now }
+    ensures nodes { nodes.new ≡ policy_nodes text.now nodes.old spans.old }
+    ensures spans { spans.new ≡ policy_spans text.now nodes.old spans.old }
 {
     if spans.len() < SPAN_WORDS {
         return too_short();
@@ -48,9 +48,9 @@ pub fn read_policy(text: &[u8], nodes: &mut [u32], spans: &mut [u32]) -> PolicyA
 
 // The same, but the words after an accepted tree's rows and after the strings of an accepted policy stay as lent.
 pub fn read_over(text: &[u8], nodes: &mut [u32], spans: &mut [u32]) -> PolicyAnswer
-    ensures answer { policyTold result ≡ policyAnswer (length nodes.old) (length spans.old) text.now }
-    ensures nodes { nodes.new ≡ policyNodesOver text.now nodes.old spans.old }
-    ensures spans { spans.new ≡ policySpansOver text.now nodes.old spans.old }
+    ensures answer { policy_told result ≡ policy_answer (length nodes.old) (length spans.old) text.now }
+    ensures nodes { nodes.new ≡ policy_nodes_over text.now nodes.old spans.old }
+    ensures spans { spans.new ≡ policy_spans_over text.now nodes.old spans.old }
 {
     if spans.len() < SPAN_WORDS {
         return too_short();
@@ -67,7 +67,7 @@ pub fn read_over(text: &[u8], nodes: &mut [u32], spans: &mut [u32]) -> PolicyAns
 // From the tree's answer and its rows to the policy, whose strings are put into the counted words of the span table.
 fn map_tree(text: &[u8], tree: Answer, nodes: &[u32], spans: &mut [u32]) -> PolicyAnswer
     requires held { tree.refusal ≡ 0 → Held nodes.now text.now 0 }
-    requires spans_len { length spans.old ≡ spanWords }
+    requires spans_len { length spans.old ≡ span_words }
     ensures { TreeMapped text.now tree nodes.now spans.old spans.new result }
 {
     let refusal = tree.refusal;
@@ -80,14 +80,14 @@ fn map_tree(text: &[u8], tree: Answer, nodes: &[u32], spans: &mut [u32]) -> Poli
 
 // A refusal of 1: nothing was read.
 fn too_short() -> PolicyAnswer
-    ensures { policyTold result ≡ policyAnswered (unread 1 0) }
+    ensures { policy_told result ≡ policy_answered (unread 1 0) }
 {
     without_policy(parser::too_short())
 }
 
 // An answer of reading a tree that stands for itself.
 pub(crate) fn without_policy(answer: Answer) -> PolicyAnswer
-    ensures { policyTold result ≡ record { answer = told answer; policy = noPolicy } }
+    ensures { policy_told result ≡ record { answer = told answer; policy = no_policy } }
 {
     PolicyAnswer {
         answer,

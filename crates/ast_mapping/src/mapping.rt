@@ -1,12 +1,12 @@
 // From the node table to a policy, or to a refusal of 7 to 16: the four steps of SPEC.md, over the nodes' numbers.
 ghost use Rattle.std.specs.Prelude.{◌≡◌, ◌+◌, ◌≤◌};
 ghost use Rattle.cel_text.specs.Tree.{array, object};
-ghost use Rattle.cel_text.specs.Table.{kindNumber};
+ghost use Rattle.cel_text.specs.Table.{kind_number};
 ghost use Rattle.cel_policy.specs.Names.{ValidationArgs, Certification, RequestCertification};
-ghost use Rattle.cel_policy.specs.Mapping.{and_then, typed, lookup, exactlyOne, requestLists, requestPart, list_of, responsePart, certificationParts, validationArgs, mapping};
-ghost use Rattle.ast_mapping.specs.View.{nodeAt, children, typedAt, Held, Tabled};
-ghost use Rattle.ast_mapping.specs.Steps.{expectedKind, refusalTold, kindRefused, fieldsUsed, foundAs, numbered, onlyAs, Checked, ListChecked, Listing, Requested};
-ghost use Rattle.ast_mapping.specs.Steps.{HeadersFound, Responded, certifiedAs, Maps};
+ghost use Rattle.cel_policy.specs.Mapping.{and_then, typed, lookup, exactly_one, request_lists, request_part, list_of, response_part, certification_parts, validation_args, mapping};
+ghost use Rattle.ast_mapping.specs.View.{node_at, children, typed_at, Held, Tabled};
+ghost use Rattle.ast_mapping.specs.Steps.{expected_kind, refusal_told, kind_refused, fields_used, found_as, numbered, only_as, Checked, ListChecked, Listing, Requested};
+ghost use Rattle.ast_mapping.specs.Steps.{HeadersFound, Responded, certified_as, Maps};
 
 use crate::name::{
     CERTIFICATION, CERTIFICATION_OBJECT, CERTIFIED_QUERY_PARAMETERS, CERTIFIED_REQUEST_HEADERS,
@@ -82,7 +82,7 @@ pub(crate) enum Mapped {
 
 // The kind that a name expects: a function, the lists of strings, and otherwise an object.
 fn expected_kind(name: u32) -> u32
-    ensures { result ≡ kindNumber (expectedKind name) }
+    ensures { result ≡ kind_number (expected_kind name) }
 {
     match name {
         DEFAULT_CERTIFICATION => FUNCTION,
@@ -94,7 +94,7 @@ fn expected_kind(name: u32) -> u32
 
 // The fields that a refusal uses; the others are 0.
 fn refused(refusal: u32, name: u32, node: Node) -> Refusal
-    ensures { refusalTold result ≡ fieldsUsed refusal name node.0 }
+    ensures { refusal_told result ≡ fields_used refusal name node.0 }
 {
     match refusal {
         UNEXPECTED_NODE_TYPE => unexpected_type(name, expected_kind(name), node),
@@ -115,7 +115,7 @@ fn refused(refusal: u32, name: u32, node: Node) -> Refusal
 
 // A node that is not of the kind that was expected.
 fn unexpected_type(name: u32, kind: u32, node: Node) -> Refusal
-    ensures { refusalTold result ≡ kindRefused name kind node.0 }
+    ensures { refusal_told result ≡ kind_refused name kind node.0 }
 {
     Refusal {
         refusal: UNEXPECTED_NODE_TYPE,
@@ -142,7 +142,7 @@ fn validate_node(text: &[u8], table: &[u32], node: Node, name: u32) -> Check
 
 // An array of strings. As long as its elements are strings, their numbers follow one another.
 fn validate_string_array(table: &[u32], list: Node, name: u32) -> Check
-    requires { Tabled table.now list.0 × (expectedKind name ≡ array) }
+    requires { Tabled table.now list.0 × (expected_kind name ≡ array) }
     ensures { ListChecked table.now list.0 name result }
 {
     let row = read_row(table, list);
@@ -164,7 +164,7 @@ fn validate_string_array(table: &[u32], list: Node, name: u32) -> Check
 // One of two, in this object: else `both`, or the number after it where neither is there.
 fn exactly_one(first: Found, second: Found, both: u32, object: Node) -> Only
     requires { (11 ≤ both) × (both ≤ 15) }
-    ensures { onlyAs numbered result ≡ exactlyOne both (both + 1) object.0 (foundAs numbered first) (foundAs numbered second) }
+    ensures { only_as numbered result ≡ exactly_one both (both + 1) object.0 (found_as numbered first) (found_as numbered second) }
 {
     match first {
         Found::At(node) => match second {
@@ -180,7 +180,7 @@ fn exactly_one(first: Found, second: Found, both: u32, object: Node) -> Only
 
 // The list of strings at this key of the object.
 fn string_list(text: &[u8], table: &[u32], object: Node, name: u32) -> Listed
-    requires { Held table.now text.now object.0 × (expectedKind name ≡ array) }
+    requires { Held table.now text.now object.0 × (expected_kind name ≡ array) }
     ensures { Listing table.now text.now object.0 name result }
 {
     let found = row::lookup(text, table, object, name);
@@ -197,7 +197,7 @@ fn string_list(text: &[u8], table: &[u32], object: Node, name: u32) -> Listed
 // An object 8 with its two lists.
 fn request_lists(text: &[u8], table: &[u32], request: Node) -> Request
     requires { Held table.now text.now request.0 }
-    ensures { Requested table.now result (and_then (typed object RequestCertification (nodeAt table.now text.now request.0)) requestLists) }
+    ensures { Requested table.now result (and_then (typed object RequestCertification (node_at table.now text.now request.0)) request_lists) }
 {
     let check = validate_node(text, table, request, REQUEST_CERTIFICATION_OBJECT);
     if let Check::Refused(r) = check {
@@ -217,7 +217,7 @@ fn request_lists(text: &[u8], table: &[u32], request: Node) -> Request
 
 fn validate_request_certification(text: &[u8], table: &[u32], certification: Node) -> Request
     requires { Held table.now text.now certification.0 }
-    ensures { Requested table.now result (requestPart (typedAt table.now text.now certification.0)) }
+    ensures { Requested table.now result (request_part (typed_at table.now text.now certification.0)) }
 {
     let no = row::lookup(text, table, certification, NO_REQUEST_CERTIFICATION);
     let yes = row::lookup(text, table, certification, REQUEST_CERTIFICATION);
@@ -236,8 +236,8 @@ fn validate_request_certification(text: &[u8], table: &[u32], certification: Nod
 
 // The strings under key `headers` of the list object at this key, where both keys are present.
 fn response_headers(text: &[u8], table: &[u32], object: Node, name: u32) -> Headers
-    requires { Held table.now text.now object.0 × (expectedKind name ≡ array) }
-    ensures { HeadersFound table.now result (list_of name (lookup name (children (nodeAt table.now text.now object.0)))) }
+    requires { Held table.now text.now object.0 × (expected_kind name ≡ array) }
+    ensures { HeadersFound table.now result (list_of name (lookup name (children (node_at table.now text.now object.0)))) }
 {
     let found = row::lookup(text, table, object, name);
     let Found::At(list) = found else {
@@ -261,7 +261,7 @@ fn response_headers(text: &[u8], table: &[u32], object: Node, name: u32) -> Head
 // Both lists are looked at before either is found to be one too many.
 fn validate_response_certification(text: &[u8], table: &[u32], certification: Node) -> Only
     requires { Held table.now text.now certification.0 }
-    ensures { Responded table.now result (responsePart (typedAt table.now text.now certification.0)) }
+    ensures { Responded table.now result (response_part (typed_at table.now text.now certification.0)) }
 {
     let found = row::lookup(text, table, certification, RESPONSE_CERTIFICATION);
     let Found::At(response) = found else {
@@ -294,7 +294,7 @@ fn validate_response_certification(text: &[u8], table: &[u32], certification: No
 
 // The policy of the two parts. A refusal of the request part comes first.
 fn certified(request: Request, response: Only) -> Mapped
-    ensures { result ≡ certifiedAs request response }
+    ensures { result ≡ certified_as request response }
 {
     match request {
         Request::Absent => match response {
@@ -314,7 +314,7 @@ fn certified(request: Request, response: Only) -> Mapped
 // An object 5 with its two parts.
 fn validate_certification(text: &[u8], table: &[u32], certification: Node) -> Mapped
     requires { Held table.now text.now certification.0 }
-    ensures { Maps table.now result (and_then (typed object Certification (nodeAt table.now text.now certification.0)) certificationParts) }
+    ensures { Maps table.now result (and_then (typed object Certification (node_at table.now text.now certification.0)) certification_parts) }
 {
     let check = validate_node(text, table, certification, CERTIFICATION_OBJECT);
     if let Check::Refused(r) = check {
@@ -328,7 +328,7 @@ fn validate_certification(text: &[u8], table: &[u32], certification: Node) -> Ma
 // An object 2, and in it the policy.
 fn validate_arguments(text: &[u8], table: &[u32], arguments: Node) -> Mapped
     requires { Held table.now text.now arguments.0 }
-    ensures { Maps table.now result (and_then (typed object ValidationArgs (nodeAt table.now text.now arguments.0)) validationArgs) }
+    ensures { Maps table.now result (and_then (typed object ValidationArgs (node_at table.now text.now arguments.0)) validation_args) }
 {
     let check = validate_node(text, table, arguments, VALIDATION_ARGS);
     if let Check::Refused(r) = check {
@@ -347,7 +347,7 @@ fn validate_arguments(text: &[u8], table: &[u32], arguments: Node) -> Mapped
 // The root is a function 1, its first argument an object 2.
 pub(crate) fn map_cel_ast(text: &[u8], table: &[u32]) -> Mapped
     requires { Held table.now text.now 0 }
-    ensures { Maps table.now result (mapping (nodeAt table.now text.now 0)) }
+    ensures { Maps table.now result (mapping (node_at table.now text.now 0)) }
 {
     let root = Node(0);
     let call = validate_node(text, table, root, DEFAULT_CERTIFICATION);

@@ -1,13 +1,13 @@
 // The span table: start and end of each string of a policy, request headers first, then query parameters, then response headers.
 ghost use Rattle.std.specs.Prelude.{◌≡◌, ◌+◌, ◌*◌, ◌≤◌, length};
-ghost use Rattle.cel_policy.specs.Policy.{Span, noPolicy, counted, numbers, stringCount};
+ghost use Rattle.cel_policy.specs.Policy.{Span, no_policy, counted, numbers, string_count};
 ghost use Rattle.cel_policy.specs.Mapping.{skipped};
-ghost use Rattle.cel_policy.specs.Spans.{spansLeft};
+ghost use Rattle.cel_policy.specs.Spans.{spans_left};
 ghost use Rattle.parser.specs.Found.{told};
 ghost use Rattle.ast_mapping.specs.declared.mapping.Mapped.TheVariants.{ResponseOnly, Full};
-ghost use Rattle.ast_mapping.specs.View.{stringsOf, Tabled};
-ghost use Rattle.ast_mapping.specs.Steps.{refusalTold, SmallNode, mappedAs, MappedIn};
-ghost use Rattle.ast_mapping.specs.Spans.{PutList, Put, stringsIn, few, spareFrom, refusedIn, Settled};
+ghost use Rattle.ast_mapping.specs.View.{strings_of, Tabled};
+ghost use Rattle.ast_mapping.specs.Steps.{refusal_told, SmallNode, mapped_as, MappedIn};
+ghost use Rattle.ast_mapping.specs.Spans.{PutList, Put, strings_in, few, spare_from, refused_in, Settled};
 
 use crate::mapping::{Mapped, Refusal};
 use crate::{PolicyAnswer, SPAN_WORDS, without_policy};
@@ -18,7 +18,7 @@ use parser::{ACCEPTED, Answer, Node, TABLE_TOO_SHORT};
 // Writes the strings of a list, the first as string `from`, and answers the number of the string after them.
 fn put_list(table: &[u32], list: Node, spans: &mut [u32], from: usize) -> usize
     requires tabled { Tabled table.now list.0 }
-    requires list_in_bounds { 2 * (from + length (stringsOf table.now list.0)) ≤ length spans.old }
+    requires list_in_bounds { 2 * (from + length (strings_of table.now list.0)) ≤ length spans.old }
     ensures { PutList table.now list.0 spans.old spans.new from result }
 {
     let array = read_row(table, list);
@@ -37,7 +37,7 @@ fn put_list(table: &[u32], list: Node, spans: &mut [u32], from: usize) -> usize
 
 // The policy without a form: nothing was accepted.
 pub(crate) fn no_policy() -> Policy
-    ensures { numbers result ≡ noPolicy }
+    ensures { numbers result ≡ no_policy }
 {
     Policy {
         form: 0,
@@ -63,8 +63,8 @@ fn skip() -> Policy
 
 fn put_response(table: &[u32], kind: u32, list: Node, spans: &mut [u32]) -> Policy
     requires tabled { Tabled table.now list.0 }
-    requires few { few spans.old (stringsOf table.now list.0) }
-    ensures { Put (mappedAs table.now (ResponseOnly kind list)) spans.old spans.new result }
+    requires few { few spans.old (strings_of table.now list.0) }
+    ensures { Put (mapped_as table.now (ResponseOnly kind list)) spans.old spans.new result }
 {
     let response = put_list(table, list, spans, 0);
     Policy {
@@ -85,8 +85,8 @@ fn put_full(
     spans: &mut [u32],
 ) -> Policy
     requires tabled { Tabled table.now headers.0 × Tabled table.now query.0 × Tabled table.now list.0 }
-    requires few { few spans.old (stringsIn (mappedAs table.now (Full headers query kind list))) }
-    ensures { Put (mappedAs table.now (Full headers query kind list)) spans.old spans.new result }
+    requires few { few spans.old (strings_in (mapped_as table.now (Full headers query kind list))) }
+    ensures { Put (mapped_as table.now (Full headers query kind list)) spans.old spans.new result }
 {
     let first = put_list(table, headers, spans, 0);
     let second = put_list(table, query, spans, first);
@@ -102,14 +102,14 @@ fn put_full(
 
 // The first word after the strings of this policy.
 pub(crate) fn strings_end(policy: Policy) -> usize
-    ensures { result ≡ 2 * stringCount (numbers policy) }
+    ensures { result ≡ 2 * string_count (numbers policy) }
 {
     2 * (policy.request as usize + policy.query as usize + policy.response as usize)
 }
 
 // The first of the counted words that a read with this refusal has to set to 0: after an accepted policy's strings that is `end`.
 pub(crate) fn spare(refusal: u32, end: usize) -> usize
-    ensures { result ≡ spareFrom (spansLeft refusal) end }
+    ensures { result ≡ spare_from (spans_left refusal) end }
 {
     match refusal {
         ACCEPTED => end,
@@ -121,7 +121,7 @@ pub(crate) fn spare(refusal: u32, end: usize) -> usize
 // A refusal at a node of the tree, with the tree's nodes and depth.
 fn refused_in(tree: Answer, refusal: Refusal) -> Answer
     requires { SmallNode refusal }
-    ensures { told result ≡ refusedIn (told tree) (refusalTold refusal) }
+    ensures { told result ≡ refused_in (told tree) (refusal_told refusal) }
 {
     Answer {
         refusal: refusal.refusal,
@@ -136,8 +136,8 @@ fn refused_in(tree: Answer, refusal: Refusal) -> Answer
 // The answer of a tree that was mapped. The strings of a policy are put into the span table.
 pub(crate) fn settle(table: &[u32], mapped: Mapped, tree: Answer, spans: &mut [u32]) -> PolicyAnswer
     requires mapped_in { MappedIn table.now mapped }
-    requires few { few spans.old (stringsIn (mappedAs table.now mapped)) }
-    ensures { Settled (mappedAs table.now mapped) tree spans.old spans.new result }
+    requires few { few spans.old (strings_in (mapped_as table.now mapped)) }
+    ensures { Settled (mapped_as table.now mapped) tree spans.old spans.new result }
 {
     match mapped {
         Mapped::Skip => PolicyAnswer {

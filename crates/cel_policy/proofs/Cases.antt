@@ -5,34 +5,34 @@ use mathlib.Core.Path.{◌≡◌, refl}
 use mathlib.Core.List.{List, [], ◌∷◌, ◌++◌, map}
 use Prim.Native.Nat.{ℕ, zero, suc, ◌-◌}
 use lib.ListN.{replicate, length, take}
-use Rattle.cel_text.specs.Byte.{Text, ascii, stringByte, blank, identByte, alphanumeric, bytes}
-use Rattle.cel_text.specs.Reading.{enter, enterString, past, bare, start, unquote, step}
+use Rattle.cel_text.specs.Byte.{Text, ascii, string_byte, blank, ident_byte, alphanumeric, bytes}
+use Rattle.cel_text.specs.Reading.{enter, enter_string, past, bare, start, unquote, step}
 use Rattle.cel_text.specs.Table.{Words}
-use Rattle.cel_text.specs.Answer.{Answer, treeAnswer, treeTable}
+use Rattle.cel_text.specs.Answer.{Answer, tree_answer, tree_table}
 use Rattle.cel_policy.specs.Names.{spelling}
 use Rattle.cel_policy.specs.Policy.{Counted}
-use Rattle.cel_policy.specs.Mapping.{typed, lookup, present, element, elements, stringArray, first_of, firstChild, headersOf, list_of, responseLists, responsePart, listAt, requestLists}
-use Rattle.cel_policy.specs.Mapping.{requestOf, requestPart, certificationParts, certificationOf, validationArgs, mapping}
-use Rattle.cel_policy.specs.Spans.{spanTable}
-use Rattle.cel_policy.specs.Printed.{skipText, requestText, responseText, responseOnlyText, fullText, printed, shaped}
-use Rattle.cel_policy.specs.Answers.{PolicyAnswer, policyAnswer, policyNodes, policySpans, spanFits, bytesFit, judgement, sized, findPrint, PrintAnswer, printAnswer, printOutput, findCanonical}
-use Rattle.cel_policy.specs.Answers.{canonicalAnswer, canonicalOutput}
+use Rattle.cel_policy.specs.Mapping.{typed, lookup, present, element, elements, string_array, first_of, first_child, headers_of, list_of, response_lists, response_part, list_at, request_lists}
+use Rattle.cel_policy.specs.Mapping.{request_of, request_part, certification_parts, certification_of, validation_args, mapping}
+use Rattle.cel_policy.specs.Spans.{span_table}
+use Rattle.cel_policy.specs.Printed.{skip_text, request_text, response_text, response_only_text, full_text, printed, shaped}
+use Rattle.cel_policy.specs.Answers.{PolicyAnswer, policy_answer, policy_nodes, policy_spans, span_fits, bytes_fit, judgement, sized, find_print, PrintAnswer, print_answer, print_output, find_canonical}
+use Rattle.cel_policy.specs.Answers.{canonical_answer, canonical_output}
 
 -- what an answer is computed through: reading, mapping, printing
 reading : Unit {0}
-unfolding ascii stringByte blank identByte alphanumeric enter enterString past bare start unquote step treeAnswer treeTable
+unfolding ascii string_byte blank ident_byte alphanumeric enter enter_string past bare start unquote step tree_answer tree_table
 reading = tt
 
 listing : Unit {0}
-unfolding spelling element elements stringArray headersOf list_of listAt responseLists requestLists requestOf
+unfolding spelling element elements string_array headers_of list_of list_at response_lists request_lists request_of
 listing = tt
 
 mapped : Unit {0}
-unfolding listing typed lookup present first_of firstChild requestPart responsePart certificationParts certificationOf validationArgs mapping spanTable policyAnswer policyNodes policySpans
+unfolding listing typed lookup present first_of first_child request_part response_part certification_parts certification_of validation_args mapping span_table policy_answer policy_nodes policy_spans
 mapped = tt
 
 printing : Unit {0}
-unfolding skipText requestText responseText responseOnlyText fullText printed shaped spanFits bytesFit judgement sized findPrint printAnswer printOutput findCanonical canonicalAnswer canonicalOutput
+unfolding skip_text request_text response_text response_only_text full_text printed shaped span_fits bytes_fit judgement sized find_print print_answer print_output find_canonical canonical_answer canonical_output
 printing = tt
 
 -- a table of words as it is left: the words, then zeros
@@ -40,48 +40,48 @@ abbrev spare : ℕ → Words → Words
 spare n ws = take n (ws ++ replicate n 0)
 
 -- the answer for a tree that is accepted
-abbrev aTree : (nodes depth : ℕ) → Answer
-aTree n d = record { refusal = 0; name = 0; kind = 0; place = 0; nodes = n; depth = d }
+abbrev a_tree : (nodes depth : ℕ) → Answer
+a_tree n d = record { refusal = 0; name = 0; kind = 0; place = 0; nodes = n; depth = d }
 
 -- the answer for a text that is refused while it is read
-abbrev refusedAt : (refusal place : ℕ) → Answer
-refusedAt r p = record { refusal = r; name = 0; kind = 0; place = p; nodes = 0; depth = 0 }
+abbrev refused_at : (refusal place : ℕ) → Answer
+refused_at r p = record { refusal = r; name = 0; kind = 0; place = p; nodes = 0; depth = 0 }
 
 -- no policy, and Skip: form, kind and three counts
 abbrev nothing : Counted
-nothing = record { form = 0; kind = 0; requestHeaders = 0; queryParameters = 0; responseHeaders = 0 }
+nothing = record { form = 0; kind = 0; request_headers = 0; query_parameters = 0; response_headers = 0 }
 
 abbrev skips : Counted
-skips = record { form = 1; kind = 0; requestHeaders = 0; queryParameters = 0; responseHeaders = 0 }
+skips = record { form = 1; kind = 0; request_headers = 0; query_parameters = 0; response_headers = 0 }
 
 -- ---- the marked cases
 
 -- a text; its answers as a tree and as a policy; the words of its rows
 record Case : Type 0 where
   text : Text
-  asTree : Answer
-  asPolicy : PolicyAnswer
+  as_tree : Answer
+  as_policy : PolicyAnswer
   rows : Words
 
 -- refused while it is read; mapped to no policy; Skip
 abbrev unread : Text → (refusal place : ℕ) → Case
-unread x r p = record { text = x; asTree = refusedAt r p; asPolicy = record { answer = refusedAt r p; policy = nothing }; rows = [] }
+unread x r p = record { text = x; as_tree = refused_at r p; as_policy = record { answer = refused_at r p; policy = nothing }; rows = [] }
 
 abbrev unmapped : Text → (refusal name kind place nodes depth : ℕ) → Words → Case
 unmapped x r m k p n d ws =
     record {
       text = x;
-      asTree = aTree n d;
-      asPolicy = record { answer = record { refusal = r; name = m; kind = k; place = p; nodes = n; depth = d }; policy = nothing };
+      as_tree = a_tree n d;
+      as_policy = record { answer = record { refusal = r; name = m; kind = k; place = p; nodes = n; depth = d }; policy = nothing };
       rows = ws;
     }
 
-abbrev aSkip : Text → (nodes depth : ℕ) → Words → Case
-aSkip x n d ws =
+abbrev a_skip : Text → (nodes depth : ℕ) → Words → Case
+a_skip x n d ws =
     record {
       text = x;
-      asTree = aTree n d;
-      asPolicy = record { answer = aTree n d; policy = skips };
+      as_tree = a_tree n d;
+      as_policy = record { answer = a_tree n d; policy = skips };
       rows = ws;
     }
 
@@ -96,19 +96,19 @@ cases =
     ∷ unread (bytes "[\"\",\" x\"]") 4 6
     ∷ unread (bytes "[\"_\"]") 4 2
     ∷ unmapped (bytes "[\"abc  \"]") 7 1 4 0 2 1 (2 ∷ 0 ∷ 0 ∷ 0 ∷ 0 ∷ 0 ∷ 1 ∷ 2 ∷ 1 ∷ 2 ∷ 5 ∷ 0 ∷ 0 ∷ 1 ∷ 0 ∷ 2 ∷ [])
-    ∷ aSkip (bytes "default_certification(ValidationArgs{no_certification:Empty{}})") 3 3
+    ∷ a_skip (bytes "default_certification(ValidationArgs{no_certification:Empty{}})") 3 3
     (4 ∷ 0 ∷ 21 ∷ 0 ∷ 0 ∷ 0 ∷ 1 ∷ 3 ∷ 3 ∷ 22 ∷ 36 ∷ 0 ∷ 0 ∷ 1 ∷ 1 ∷ 3 ∷ 3 ∷ 54 ∷ 59 ∷ 37 ∷ 53 ∷ 2 ∷ 0 ∷ 3 ∷ [])
-    ∷ aSkip (bytes "default_certification(ValidationArgs{no_certification:\"\"})") 3 2
+    ∷ a_skip (bytes "default_certification(ValidationArgs{no_certification:\"\"})") 3 2
     (4 ∷ 0 ∷ 21 ∷ 0 ∷ 0 ∷ 0 ∷ 1 ∷ 3 ∷ 3 ∷ 22 ∷ 36 ∷ 0 ∷ 0 ∷ 1 ∷ 1 ∷ 3 ∷ 1 ∷ 55 ∷ 55 ∷ 37 ∷ 53 ∷ 2 ∷ 0 ∷ 3 ∷ [])
     ∷ []
 
 -- each case's two answers, and the tables, lent full of 7, that the two reads leave
 cases-hold :
-    (map (λ (c : Case). treeAnswer 2048 c.text) cases ≡ map (λ (c : Case). c.asTree) cases)
-    × (map (λ (c : Case). policyAnswer 2048 512 c.text) cases ≡ map (λ (c : Case). c.asPolicy) cases)
-    × (map (λ (c : Case). treeTable c.text (replicate 2048 7)) cases ≡ map (λ (c : Case). spare 2048 c.rows) cases)
-    × (map (λ (c : Case). policyNodes c.text (replicate 2048 7) (replicate 512 7)) cases ≡ map (λ (c : Case). spare 2048 c.rows) cases)
-    × (map (λ (c : Case). policySpans c.text (replicate 2048 7) (replicate 512 7)) cases ≡ map (λ (c : Case). spare 512 []) cases)
+    (map (λ (c : Case). tree_answer 2048 c.text) cases ≡ map (λ (c : Case). c.as_tree) cases)
+    × (map (λ (c : Case). policy_answer 2048 512 c.text) cases ≡ map (λ (c : Case). c.as_policy) cases)
+    × (map (λ (c : Case). tree_table c.text (replicate 2048 7)) cases ≡ map (λ (c : Case). spare 2048 c.rows) cases)
+    × (map (λ (c : Case). policy_nodes c.text (replicate 2048 7) (replicate 512 7)) cases ≡ map (λ (c : Case). spare 2048 c.rows) cases)
+    × (map (λ (c : Case). policy_spans c.text (replicate 2048 7) (replicate 512 7)) cases ≡ map (λ (c : Case). spare 512 []) cases)
 unfolding cases reading mapped
 cases-hold = (refl, refl, refl, refl, refl)
 
@@ -120,18 +120,18 @@ record Lent : Type 0 where
   text : Text
   nodes : ℕ
   spans : ℕ
-  asTree : Answer
-  asPolicy : Answer
-  treeNodes : Words
-  policyNodes : Words
-  policySpans : Words
+  as_tree : Answer
+  as_policy : Answer
+  tree_nodes : Words
+  policy_nodes : Words
+  policy_spans : Words
 
 -- a node table of 2,050 words with these rows; a span table of 514
-abbrev longNodes : Words → Words
-longNodes ws = spare 2048 ws ++ (7 ∷ 7 ∷ [])
+abbrev long_nodes : Words → Words
+long_nodes ws = spare 2048 ws ++ (7 ∷ 7 ∷ [])
 
-abbrev longSpans : Words → Words
-longSpans ws = spare 512 ws ++ (7 ∷ 7 ∷ [])
+abbrev long_spans : Words → Words
+long_spans ws = spare 512 ws ++ (7 ∷ 7 ∷ [])
 
 lents : List Lent
 lents =
@@ -140,59 +140,59 @@ lents =
       text = bytes "f()";
       nodes = 2047;
       spans = 514;
-      asTree = refusedAt 1 0;
-      asPolicy = refusedAt 1 0;
-      treeNodes = replicate 2047 7;
-      policyNodes = replicate 2047 7;
-      policySpans = replicate 514 7;
+      as_tree = refused_at 1 0;
+      as_policy = refused_at 1 0;
+      tree_nodes = replicate 2047 7;
+      policy_nodes = replicate 2047 7;
+      policy_spans = replicate 514 7;
     }
     ∷ record {
       text = bytes "f()";
       nodes = 2050;
       spans = 511;
-      asTree = aTree 1 1;
-      asPolicy = refusedAt 1 0;
-      treeNodes = longNodes (4 ∷ 0 ∷ 1 ∷ 0 ∷ 0 ∷ 0 ∷ 0 ∷ 1 ∷ []);
-      policyNodes = replicate 2050 7;
-      policySpans = replicate 511 7;
+      as_tree = a_tree 1 1;
+      as_policy = refused_at 1 0;
+      tree_nodes = long_nodes (4 ∷ 0 ∷ 1 ∷ 0 ∷ 0 ∷ 0 ∷ 0 ∷ 1 ∷ []);
+      policy_nodes = replicate 2050 7;
+      policy_spans = replicate 511 7;
     }
     -- tables that are just long enough
     ∷ record {
       text = bytes "a";
       nodes = 2048;
       spans = 512;
-      asTree = refusedAt 4 1;
-      asPolicy = refusedAt 4 1;
-      treeNodes = replicate 2048 0;
-      policyNodes = replicate 2048 0;
-      policySpans = replicate 512 0;
+      as_tree = refused_at 4 1;
+      as_policy = refused_at 4 1;
+      tree_nodes = replicate 2048 0;
+      policy_nodes = replicate 2048 0;
+      policy_spans = replicate 512 0;
     }
     -- “No word after those that count is touched.”
     ∷ record {
       text = bytes "a";
       nodes = 2050;
       spans = 514;
-      asTree = refusedAt 4 1;
-      asPolicy = refusedAt 4 1;
-      treeNodes = longNodes [];
-      policyNodes = longNodes [];
-      policySpans = longSpans [];
+      as_tree = refused_at 4 1;
+      as_policy = refused_at 4 1;
+      tree_nodes = long_nodes [];
+      policy_nodes = long_nodes [];
+      policy_spans = long_spans [];
     }
     -- a second child that has children of its own
     ∷ record {
       text = bytes "f(g(),h{a:\"x\",b:[]})";
       nodes = 2050;
       spans = 514;
-      asTree = aTree 5 3;
-      asPolicy = record { refusal = 8; name = 1; kind = 0; place = 0; nodes = 5; depth = 3 };
-      treeNodes = longNodes fiveRows;
-      policyNodes = longNodes fiveRows;
-      policySpans = longSpans [];
+      as_tree = a_tree 5 3;
+      as_policy = record { refusal = 8; name = 1; kind = 0; place = 0; nodes = 5; depth = 3 };
+      tree_nodes = long_nodes five_rows;
+      policy_nodes = long_nodes five_rows;
+      policy_spans = long_spans [];
     }
     ∷ []
   where
-    fiveRows : Words
-    fiveRows =
+    five_rows : Words
+    five_rows =
         (4 ∷ 0 ∷ 1 ∷ 0 ∷ 0 ∷ 0 ∷ 2 ∷ 5 ∷ [])
         ++ (4 ∷ 2 ∷ 3 ∷ 0 ∷ 0 ∷ 1 ∷ 0 ∷ 2 ∷ [])
         ++ (3 ∷ 6 ∷ 7 ∷ 0 ∷ 0 ∷ 1 ∷ 2 ∷ 5 ∷ [])
@@ -200,11 +200,11 @@ lents =
         ++ (2 ∷ 0 ∷ 0 ∷ 14 ∷ 15 ∷ 3 ∷ 0 ∷ 5 ∷ [])
 
 lents-hold :
-    (map (λ (c : Lent). treeAnswer c.nodes c.text) lents ≡ map (λ (c : Lent). c.asTree) lents)
-    × (map (λ (c : Lent). (policyAnswer c.nodes c.spans c.text).answer) lents ≡ map (λ (c : Lent). c.asPolicy) lents)
-    × (map (λ (c : Lent). treeTable c.text (replicate c.nodes 7)) lents ≡ map (λ (c : Lent). c.treeNodes) lents)
-    × (map (λ (c : Lent). policyNodes c.text (replicate c.nodes 7) (replicate c.spans 7)) lents ≡ map (λ (c : Lent). c.policyNodes) lents)
-    × (map (λ (c : Lent). policySpans c.text (replicate c.nodes 7) (replicate c.spans 7)) lents ≡ map (λ (c : Lent). c.policySpans) lents)
+    (map (λ (c : Lent). tree_answer c.nodes c.text) lents ≡ map (λ (c : Lent). c.as_tree) lents)
+    × (map (λ (c : Lent). (policy_answer c.nodes c.spans c.text).answer) lents ≡ map (λ (c : Lent). c.as_policy) lents)
+    × (map (λ (c : Lent). tree_table c.text (replicate c.nodes 7)) lents ≡ map (λ (c : Lent). c.tree_nodes) lents)
+    × (map (λ (c : Lent). policy_nodes c.text (replicate c.nodes 7) (replicate c.spans 7)) lents ≡ map (λ (c : Lent). c.policy_nodes) lents)
+    × (map (λ (c : Lent). policy_spans c.text (replicate c.nodes 7) (replicate c.spans 7)) lents ≡ map (λ (c : Lent). c.policy_spans) lents)
 unfolding lents reading mapped
 lents-hold = (refl, refl, refl, refl, refl)
 
@@ -216,9 +216,9 @@ strings (suc n) = bytes "\"\"," ++ strings n
 
 -- 32 times `[` and 32 times `]`; 33 times each; “32 times `[`”; “`[` and 256 times `""`, with commas”
 limits-hold :
-    map (treeAnswer 2048)
+    map (tree_answer 2048)
     ((replicate 32 91 ++ replicate 32 93) ∷ (replicate 33 91 ++ replicate 33 93) ∷ replicate 32 91 ∷ (bytes "[" ++ (strings 255 ++ bytes "\"\"]")) ∷ [])
-    ≡ aTree 32 32 ∷ refusedAt 5 32 ∷ refusedAt 4 32 ∷ refusedAt 6 766 ∷ []
+    ≡ a_tree 32 32 ∷ refused_at 5 32 ∷ refused_at 4 32 ∷ refused_at 6 766 ∷ []
 unfolding strings reading
 limits-hold = refl
 
@@ -242,19 +242,19 @@ slips =
     -- “Of several entries with the same key, the last is the one that counts.”
     record {
       text = bytes "default_certification(ValidationArgs{no_certification:\"\",x:[],no_certification:{}})";
-      answer = record { answer = aTree 5 3; policy = skips };
+      answer = record { answer = a_tree 5 3; policy = skips };
       spans = [];
     }
     ∷ record {
       text =
           certifying (responding (bytes "response_header_exclusions:\"\",response_header_exclusions:ResponseHeaderList{headers:[{}],headers:[\"a\",\"bc\"]}"));
-      answer = record { answer = aTree 12 7; policy = record { form = 2; kind = 2; requestHeaders = 0; queryParameters = 0; responseHeaders = 2 } };
+      answer = record { answer = a_tree 12 7; policy = record { form = 2; kind = 2; request_headers = 0; query_parameters = 0; response_headers = 2 } };
       spans = 237 ∷ 238 ∷ 241 ∷ 243 ∷ [];
     }
     -- an empty header list is a list, a list object without key 16 counts as absent
     ∷ record {
       text = certifying (responding (bytes "response_header_exclusions:ResponseHeaderList{},certified_response_headers:ResponseHeaderList{headers:[]}"));
-      answer = record { answer = aTree 8 6; policy = record { form = 2; kind = 1; requestHeaders = 0; queryParameters = 0; responseHeaders = 0 } };
+      answer = record { answer = a_tree 8 6; policy = record { form = 2; kind = 1; request_headers = 0; query_parameters = 0; response_headers = 0 } };
       spans = [];
     }
     -- the second list's type comes before 15
@@ -274,14 +274,14 @@ slips =
           certifying
           (bytes "response_certification:ResponseCertification{certified_response_headers:ResponseHeaderList{headers:[\"r\"]}},"
           ++ bytes "request_certification:RequestCertification{certified_query_parameters:[\"q\"],certified_request_headers:[\"h\",\"i\"]}");
-      answer = record { answer = aTree 13 6; policy = record { form = 3; kind = 1; requestHeaders = 2; queryParameters = 1; responseHeaders = 1 } };
+      answer = record { answer = a_tree 13 6; policy = record { form = 3; kind = 1; request_headers = 2; query_parameters = 1; response_headers = 1 } };
       spans = 276 ∷ 277 ∷ 280 ∷ 281 ∷ 244 ∷ 245 ∷ 166 ∷ 167 ∷ [];
     }
     ∷ []
 
 slips-hold :
-    (map (λ (c : Slip). policyAnswer 2048 512 c.text) slips ≡ map (λ (c : Slip). c.answer) slips)
-    × (map (λ (c : Slip). take 16 (policySpans c.text (replicate 2048 7) (replicate 512 7))) slips ≡ map (λ (c : Slip). spare 16 c.spans) slips)
+    (map (λ (c : Slip). policy_answer 2048 512 c.text) slips ≡ map (λ (c : Slip). c.answer) slips)
+    × (map (λ (c : Slip). take 16 (policy_spans c.text (replicate 2048 7) (replicate 512 7))) slips ≡ map (λ (c : Slip). spare 16 c.spans) slips)
 unfolding slips reading mapped
 slips-hold = (refl, refl)
 
@@ -292,27 +292,27 @@ record Unmapped : Type 0 where
   text : Text
   answer : Answer
 
-abbrev refusedAs : Text → (refusal name kind place nodes depth : ℕ) → Unmapped
-refusedAs x r m k p n d = record { text = x; answer = record { refusal = r; name = m; kind = k; place = p; nodes = n; depth = d } }
+abbrev refused_as : Text → (refusal name kind place nodes depth : ℕ) → Unmapped
+refused_as x r m k p n d = record { text = x; answer = record { refusal = r; name = m; kind = k; place = p; nodes = n; depth = d } }
 
 refusals : List Unmapped
 refusals =
-    refusedAs (bytes "default_certification(ValidationArgs{certification:Certification{},no_certification:\"\"})") 11 0 0 1 4 3
-    ∷ refusedAs (bytes "default_certification(ValidationArgs{})") 12 0 0 1 2 2
-    ∷ refusedAs (certifying (bytes "request_certification:\"\",no_request_certification:\"\"")) 13 0 0 2 5 3
-    ∷ refusedAs (certifying (bytes "")) 14 0 0 2 3 3
-    ∷ refusedAs (certifying (responding (bytes ""))) 16 0 0 4 5 4
+    refused_as (bytes "default_certification(ValidationArgs{certification:Certification{},no_certification:\"\"})") 11 0 0 1 4 3
+    ∷ refused_as (bytes "default_certification(ValidationArgs{})") 12 0 0 1 2 2
+    ∷ refused_as (certifying (bytes "request_certification:\"\",no_request_certification:\"\"")) 13 0 0 2 5 3
+    ∷ refused_as (certifying (bytes "")) 14 0 0 2 3 3
+    ∷ refused_as (certifying (responding (bytes ""))) 16 0 0 4 5 4
     -- 10 and the property, at the object's node
-    ∷ refusedAs (certifying (bytes "request_certification:RequestCertification{}")) 10 9 0 3 4 4
-    ∷ refusedAs (certifying (bytes "request_certification:RequestCertification{certified_request_headers:[]}")) 10 10 0 3 5 5
-    ∷ refusedAs (certifying (bytes "no_request_certification:\"\"")) 10 11 0 2 4 3
+    ∷ refused_as (certifying (bytes "request_certification:RequestCertification{}")) 10 9 0 3 4 4
+    ∷ refused_as (certifying (bytes "request_certification:RequestCertification{certified_request_headers:[]}")) 10 10 0 3 5 5
+    ∷ refused_as (certifying (bytes "no_request_certification:\"\"")) 10 11 0 2 4 3
     -- “A node that is no array is refused with 7 and kind 2. Of the elements, the first that is no string is refused with 7 and kind 1.”
-    ∷ refusedAs (certifying (bytes "request_certification:RequestCertification{certified_request_headers:\"\"}")) 7 9 2 4 5 4
-    ∷ refusedAs (certifying (responding (bytes "certified_response_headers:ResponseHeaderList{headers:[\"a\",{}]}"))) 7 13 1 8 9 7
+    ∷ refused_as (certifying (bytes "request_certification:RequestCertification{certified_request_headers:\"\"}")) 7 9 2 4 5 4
+    ∷ refused_as (certifying (responding (bytes "certified_response_headers:ResponseHeaderList{headers:[\"a\",{}]}"))) 7 13 1 8 9 7
     ∷ []
 
 refusals-hold :
-    map (λ (c : Unmapped). policyAnswer 2048 512 c.text) refusals ≡ map (λ (c : Unmapped). record { answer = c.answer; policy = nothing }) refusals
+    map (λ (c : Unmapped). policy_answer 2048 512 c.text) refusals ≡ map (λ (c : Unmapped). record { answer = c.answer; policy = nothing }) refusals
 unfolding refusals reading mapped
 refusals-hold = refl
 
@@ -331,7 +331,7 @@ abbrev letters : Text
 letters = bytes "abc_def"
 
 abbrev asked : Counted
-asked = record { form = 3; kind = 2; requestHeaders = 2; queryParameters = 0; responseHeaders = 1 }
+asked = record { form = 3; kind = 2; request_headers = 2; query_parameters = 0; response_headers = 1 }
 
 abbrev refusing : (refusal place : ℕ) → PrintAnswer
 refusing r p = record { refusal = r; name = 0; kind = 0; place = p; length = 0 }
@@ -353,7 +353,7 @@ askings =
     ∷ record { numbers = asked; spans = 3 ∷ 4 ∷ 2 ∷ 1 ∷ 4 ∷ 9 ∷ []; room = 0; answer = refusing 21 1; writes = [] }
     ∷ record { numbers = asked; spans = 3 ∷ 4 ∷ 1 ∷ 2 ∷ 4 ∷ []; room = 0; answer = refusing 21 2; writes = [] }
     ∷ record {
-      numbers = record { form = 3; kind = 2; requestHeaders = 4294967295; queryParameters = 1; responseHeaders = 1 };
+      numbers = record { form = 3; kind = 2; request_headers = 4294967295; query_parameters = 1; response_headers = 1 };
       spans = [];
       room = 0;
       answer = refusing 20 0;
@@ -362,8 +362,8 @@ askings =
     ∷ []
 
 askings-hold :
-    (map (λ (c : Asking). printAnswer stringByte c.numbers c.spans letters c.room) askings ≡ map (λ (c : Asking). c.answer) askings)
-    × (map (λ (c : Asking). printOutput stringByte c.numbers c.spans letters (replicate c.room 7)) askings
+    (map (λ (c : Asking). print_answer string_byte c.numbers c.spans letters c.room) askings ≡ map (λ (c : Asking). c.answer) askings)
+    × (map (λ (c : Asking). print_output string_byte c.numbers c.spans letters (replicate c.room 7)) askings
     ≡ map (λ (c : Asking). c.writes ++ replicate (c.room - length c.writes) 7) askings)
 unfolding askings reading printing
 askings-hold = (refl, refl)
@@ -392,8 +392,8 @@ numbers =
     ∷ []
 
 numbers-hold :
-    (map (λ (c : Number). canonicalAnswer c.text c.room) numbers ≡ map (λ (c : Number). c.number) numbers)
-    × (map (λ (c : Number). canonicalOutput c.text (replicate c.room 7)) numbers
+    (map (λ (c : Number). canonical_answer c.text c.room) numbers ≡ map (λ (c : Number). c.number) numbers)
+    × (map (λ (c : Number). canonical_output c.text (replicate c.room 7)) numbers
     ≡ map (λ (c : Number). c.writes ++ replicate (c.room - length c.writes) 7) numbers)
 unfolding numbers reading mapped printing
 numbers-hold = (refl, refl)

@@ -13,5 +13,5 @@ pub record ReadAs (S : ℕ → Bool) (x : Text) (p : Policy Text) (q n d : ℕ) 
   pub reads : read S limits x ≡ accepted tree q
   pub maps : mapping (node_of x tree 0) ≡ good places
   pub same : strings x places ≡ p
-  pub hasNodes : nodes tree ≡ n
-  pub hasDepth : depth tree ≡ d
+  pub has_nodes : nodes tree ≡ n
+  pub has_depth : depth tree ≡ d

@@ -41,22 +41,22 @@ abbrev mutual
   -- how many nodes it has. “Each value is a node.”
   pub size_of : Ast → ℕ
   size_of (str i) = 1
-  size_of (con c name more) = suc (sizeAll more)
+  size_of (con c name more) = suc (size_all more)
 
-  pub sizeAll : Asts → ℕ
-  sizeAll ε = 0
-  sizeAll (more ▪ k ∶ a) = sizeAll more + size_of a
+  pub size_all : Asts → ℕ
+  size_all ε = 0
+  size_all (more ▪ k ∶ a) = size_all more + size_of a
 
 abbrev mutual
   -- how deep it is. “The depth of a string is 0, that of a container without children 1, and that of any other container 1 more than the greatest depth of its
   -- children.”
-  pub heightOf : Ast → ℕ
-  heightOf (str i) = 0
-  heightOf (con c name more) = suc (heightAll more)
+  pub height_of : Ast → ℕ
+  height_of (str i) = 0
+  height_of (con c name more) = suc (height_all more)
 
-  pub heightAll : Asts → ℕ
-  heightAll ε = 0
-  heightAll (more ▪ k ∶ a) = max (heightAll more) (heightOf a)
+  pub height_all : Asts → ℕ
+  height_all ε = 0
+  height_all (more ▪ k ∶ a) = max (height_all more) (height_of a)
 
 -- “how many children it has”
 abbrev pub count_of : Asts → ℕ

@@ -25,14 +25,14 @@ unfoldable pub alphanumeric : ℕ → Bool
 alphanumeric b = leb 48 b && leb b 57 || leb 65 b && leb b 90 || leb 97 b && leb b 122
 
 -- “An identifier byte is an alphanumeric byte or `_` (95).”
-unfoldable pub identByte : ℕ → Bool
+unfoldable pub ident_byte : ℕ → Bool
 unfolding alphanumeric
-identByte b = alphanumeric b || eqb b 95
+ident_byte b = alphanumeric b || eqb b 95
 
 -- “A string byte is an alphanumeric byte or `-` (45).”
-unfoldable pub stringByte : ℕ → Bool
+unfoldable pub string_byte : ℕ → Bool
 unfolding alphanumeric
-stringByte b = alphanumeric b || eqb b 45
+string_byte b = alphanumeric b || eqb b 45
 
 -- “An ASCII byte is one below 128.”
 unfoldable pub ascii : ℕ → Bool
@@ -54,7 +54,7 @@ Blanks x = Run blank x
 
 -- “An identifier is a run of identifier bytes, and may be empty.”
 abbrev pub Identifier : Text → Type 0
-Identifier x = Run identByte x
+Identifier x = Run ident_byte x
 
 abbrev pub quote : ℕ
 quote = 34
@@ -67,5 +67,5 @@ colon = 58
 
 -- a set of string bytes that has no quote and no blank: all that the theorems ask of it
 pub record Plain (S : ℕ → Bool) : Type 0 where
-  pub noQuote : S quote ≡ false
-  pub noBlank : (b : ℕ) → T (blank b) → S b ≡ false
+  pub no_quote : S quote ≡ false
+  pub no_blank : (b : ℕ) → T (blank b) → S b ≡ false

@@ -1,8 +1,8 @@
 -- Reading, as a function that computes: a machine that takes a text byte by byte. A state is what is being read and the
 -- containers that are open around it. S is the set of string bytes, L the limits. Assumes nothing.
 use Rattle.std.specs.Prelude.{ℕ, suc, ◌+◌, Bool, false, cond, [], ◌∷◌, eqb}
-use Rattle.cel_text.specs.Byte.{Text, blank, identByte, quote, comma, colon}
-use Rattle.cel_text.specs.Tree.{Kind, array, object, function, opener, closer, Key, unkeyed, key, Tree, string, container, Trees, ∅, ◌▸◌∶◌, nodesAll}
+use Rattle.cel_text.specs.Byte.{Text, blank, ident_byte, quote, comma, colon}
+use Rattle.cel_text.specs.Tree.{Kind, array, object, function, opener, closer, Key, unkeyed, key, Tree, string, container, Trees, ∅, ◌▸◌∶◌, nodes_all}
 
 -- limits: whether a container may not open at this depth; whether a node may not open when so many have
 pub record Limits : Type 0 where
@@ -31,7 +31,7 @@ level (inside K f) = suc (level K)
 -- how many nodes have opened
 abbrev pub opened : Stack → ℕ
 opened root = 0
-opened (inside K f) = suc (opened K + nodesAll f.children)
+opened (inside K f) = suc (opened K + nodes_all f.children)
 
 -- what is due: a value, or an entry, which begins with its key
 pub data Due : Type 0 where
@@ -49,7 +49,7 @@ pub data State : Type 0 where
   after : Stack → Frame → State  -- the blanks after a container's child
 
 pub data Fault : Type 0 where
-  syntax tooDeep tooMany : Fault
+  syntax too_deep too_many : Fault
 
 -- what a byte does
 pub data Step : Type 0 where
@@ -64,16 +64,16 @@ fresh c o from to = record { kind = c; o = o; from = from; to = to; children = �
 abbrev pub closed : Frame → ℕ → Tree
 closed f q = container f.kind f.o f.from f.to q f.children
 
-abbrev pub withKey : Frame → Key → Frame
-withKey f k = record { kind = f.kind; o = f.o; from = f.from; to = f.to; children = f.children; next = k }
+abbrev pub with_key : Frame → Key → Frame
+with_key f k = record { kind = f.kind; o = f.o; from = f.from; to = f.to; children = f.children; next = k }
 
-abbrev pub withChild : Frame → Tree → Frame
-withChild f t = record { kind = f.kind; o = f.o; from = f.from; to = f.to; children = f.children ▸ f.next ∶ t; next = unkeyed }
+abbrev pub with_child : Frame → Tree → Frame
+with_child f t = record { kind = f.kind; o = f.o; from = f.from; to = f.to; children = f.children ▸ f.next ∶ t; next = unkeyed }
 
 -- the value t is whole: it is the text's, or the innermost container's next child
 abbrev pub whole : Stack → Tree → Step
 whole root t = done t
-whole (inside K f) t = go (after K (withChild f t))
+whole (inside K f) t = go (after K (with_child f t))
 
 -- “The children of an array or a function are values; those of an object are entries, each a key and a value.”
 abbrev pub child : Kind → Stack → Frame → Due
@@ -86,24 +86,24 @@ module _ (S : ℕ → Bool) (L : Limits) where
   -- many is refused with 5.”
   unfoldable pub enter : Kind → Stack → (from to p : ℕ) → Step
   enter c K from to p =
-      cond (L.deep (suc (level K))) (refuse tooDeep) (cond (L.many (opened K)) (refuse tooMany) (go (begun K (fresh c p from to))))
+      cond (L.deep (suc (level K))) (refuse too_deep) (cond (L.many (opened K)) (refuse too_many) (go (begun K (fresh c p from to))))
 
-  unfoldable pub enterString : Stack → ℕ → Step
-  enterString K p = cond (L.many (opened K)) (refuse tooMany) (go (quoted K p))
+  unfoldable pub enter_string : Stack → ℕ → Step
+  enter_string K p = cond (L.many (opened K)) (refuse too_many) (go (quoted K p))
 
   -- the byte b at place p, after an identifier and blanks: the opener of an object or a function, or an entry's `:`
   unfoldable pub past : Due → (from to p b : ℕ) → Step
   past (value K) from to p b =
       cond (eqb b (opener object)) (enter object K from to p) (cond (eqb b (opener function)) (enter function K from to p) (refuse syntax))
-  past (entry K f) from to p b = cond (eqb b colon) (go (before (value (inside K (withKey f (key from to)))))) (refuse syntax)
+  past (entry K f) from to p b = cond (eqb b colon) (go (before (value (inside K (with_key f (key from to)))))) (refuse syntax)
 
   -- the same where the identifier is empty: the opener of an array or a string too
   unfoldable pub bare : Due → (p b : ℕ) → Step
-  bare (value K) p b = cond (eqb b (opener array)) (enter array K 0 0 p) (cond (eqb b quote) (enterString K p) (past (value K) p p p b))
+  bare (value K) p b = cond (eqb b (opener array)) (enter array K 0 0 p) (cond (eqb b quote) (enter_string K p) (past (value K) p p p b))
   bare (entry K f) p b = past (entry K f) p p p b
 
   unfoldable pub start : Due → (p b : ℕ) → Step
-  start w p b = cond (blank b) (go (before w)) (cond (identByte b) (go (naming w p)) (bare w p b))
+  start w p b = cond (blank b) (go (before w)) (cond (ident_byte b) (go (naming w p)) (bare w p b))
 
   -- after a string's content. “The blanks between the content and the closing quote are dropped.”
   unfoldable pub unquote : Stack → (o to p b : ℕ) → Step
@@ -112,7 +112,7 @@ module _ (S : ℕ → Bool) (L : Limits) where
   -- what the byte b at place p does
   unfoldable pub step : State → (p b : ℕ) → Step
   step (before w) p b = start w p b
-  step (naming w from) p b = cond (identByte b) (go (naming w from)) (cond (blank b) (go (named w from p)) (past w from p p b))
+  step (naming w from) p b = cond (ident_byte b) (go (naming w from)) (cond (blank b) (go (named w from p)) (past w from p p b))
   step (named w from to) p b = cond (blank b) (go (named w from to)) (past w from to p b)
   step (quoted K o) p b = cond (S b) (go (quoted K o)) (unquote K o p p b)
   step (dropping K o to) p b = unquote K o to p b
@@ -167,14 +167,14 @@ module _ (S : ℕ → Bool) (L : Limits) where
   read x = run (before (value root)) 0 x
 
 -- a depth of 32 and 256 nodes are the most: refused is that “a container opens at depth 33” or “a node opens after 256 others”
-abbrev pub maxDepth : ℕ
-maxDepth = 32
+abbrev pub max_depth : ℕ
+max_depth = 32
 
-abbrev pub maxNodes : ℕ
-maxNodes = 256
+abbrev pub max_nodes : ℕ
+max_nodes = 256
 
 abbrev pub limits : Limits
-limits = record { deep = λ d. eqb d (suc maxDepth); many = λ n. eqb n maxNodes }
+limits = record { deep = λ d. eqb d (suc max_depth); many = λ n. eqb n max_nodes }
 
 -- no limits
 abbrev pub unlimited : Limits

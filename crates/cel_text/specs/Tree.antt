@@ -41,21 +41,21 @@ abbrev mutual
   -- “Each value is a node.”
   pub nodes : Tree → ℕ
   nodes (string o to q) = 1
-  nodes (container c o from to q ts) = suc (nodesAll ts)
+  nodes (container c o from to q ts) = suc (nodes_all ts)
 
-  pub nodesAll : Trees → ℕ
-  nodesAll ∅ = 0
-  nodesAll (ts ▸ k ∶ t) = nodesAll ts + nodes t
+  pub nodes_all : Trees → ℕ
+  nodes_all ∅ = 0
+  nodes_all (ts ▸ k ∶ t) = nodes_all ts + nodes t
 
 abbrev mutual
   -- “The depth of a string is 0, that of a container without children 1, and that of any other container 1 more than the greatest depth of its children.”
   pub depth : Tree → ℕ
   depth (string o to q) = 0
-  depth (container c o from to q ts) = suc (depthAll ts)
+  depth (container c o from to q ts) = suc (depth_all ts)
 
-  pub depthAll : Trees → ℕ
-  depthAll ∅ = 0
-  depthAll (ts ▸ k ∶ t) = max (depthAll ts) (depth t)
+  pub depth_all : Trees → ℕ
+  depth_all ∅ = 0
+  depth_all (ts ▸ k ∶ t) = max (depth_all ts) (depth t)
 
 -- “how many children it has”
 abbrev pub count : Trees → ℕ
@@ -71,11 +71,11 @@ abbrev mutual
   -- “Nodes are numbered from 0, in the order of their openers.” The openings of a value at depth d, in that order
   pub openings : ℕ → Tree → List Opening
   openings d (string o to q) = record { place = o; depth = 0 } ∷ []
-  openings d (container c o from to q ts) = record { place = o; depth = d } ∷ openingsAll (suc d) ts
+  openings d (container c o from to q ts) = record { place = o; depth = d } ∷ openings_all (suc d) ts
 
-  pub openingsAll : ℕ → Trees → List Opening
-  openingsAll d ∅ = []
-  openingsAll d (ts ▸ k ∶ t) = openingsAll d ts ++ openings d t
+  pub openings_all : ℕ → Trees → List Opening
+  openings_all d ∅ = []
+  openings_all d (ts ▸ k ∶ t) = openings_all d ts ++ openings d t
 
 -- the node with number n of the text's value t opens at place j, and it is a container at depth d, or a string and d is 0
 abbrev pub OpensAs : Tree → (n j d : ℕ) → Type 0

@@ -10,19 +10,19 @@ use lib.ListN.{length}
 use lib.Dec.{eqb, eqb-suc-suc, eqb-zero-suc}
 use borrow.Author.Tests.{not-true, not-false}
 use Rattle.cel_text.specs.Byte.{Text, lead}
-use Rattle.cel_policy.specs.Answers.{firstFault, all_of, Judgement, clean, faulty, unlessFaulty}
+use Rattle.cel_policy.specs.Answers.{first_fault, all_of, Judgement, clean, faulty, unless_faulty}
 use Rattle.parser.specs.Run.{end_of}
 
 module _ (test : ℕ → Bool) (count : ℕ) where
   -- the search from string i on finds what the whole search finds
   abbrev pub Searched : ℕ → Type 0
-  Searched i = firstFault test (count - i) i ≡ firstFault test count 0
+  Searched i = first_fault test (count - i) i ≡ first_fault test count 0
 
-  search-next : {i : ℕ} → i < count → firstFault test (count - i) i ≡ cond (test i) (firstFault test (count - (i + 1)) (i + 1)) (some i)
+  search-next : {i : ℕ} → i < count → first_fault test (count - i) i ≡ cond (test i) (first_fault test (count - (i + 1)) (i + 1)) (some i)
   search-next {i = i} h =
       let m : count - i ≡ suc (count - (i + 1)) = omega arith in
       let n : suc i ≡ i + 1 = omega arith in
-      ap (λ (k : ℕ). firstFault test k i) m ∙ ap (λ (k : ℕ). cond (test i) (firstFault test (count - (i + 1)) k) (some i)) n
+      ap (λ (k : ℕ). first_fault test k i) m ∙ ap (λ (k : ℕ). cond (test i) (first_fault test (count - (i + 1)) k) (some i)) n
 
   -- string i passes
   pub search-on : {i : ℕ} {r : Bool} → i < count → r ≡ test i → not r ≡ false → Searched i → Searched (i + 1)
@@ -30,17 +30,17 @@ module _ (test : ℕ → Bool) (count : ℕ) where
 
   module _ (refusal : ℕ) where
     abbrev fault : Option ℕ → Judgement
-    fault o = unlessFaulty refusal o clean
+    fault o = unless_faulty refusal o clean
 
     -- it does not
-    pub search-found : {i : ℕ} {r : Bool} → i < count → r ≡ test i → not r ≡ true → Searched i → faulty refusal i ≡ fault (firstFault test count 0)
-    search-found {i = i} {r = r} h e t s = let found : firstFault test (count - i) i ≡ some i = search-next h ∙ rw (sym e ∙ not-true r t) in ap fault (sym found ∙ s)
+    pub search-found : {i : ℕ} {r : Bool} → i < count → r ≡ test i → not r ≡ true → Searched i → faulty refusal i ≡ fault (first_fault test count 0)
+    search-found {i = i} {r = r} h e t s = let found : first_fault test (count - i) i ≡ some i = search-next h ∙ rw (sym e ∙ not-true r t) in ap fault (sym found ∙ s)
 
     -- all have passed
-    pub search-over : {i : ℕ} → count ≤ i → Searched i → clean ≡ fault (firstFault test count 0)
+    pub search-over : {i : ℕ} → count ≤ i → Searched i → clean ≡ fault (first_fault test count 0)
     search-over {i = i} h s =
         let m : count - i ≡ 0 = omega arith in
-        let over : firstFault test (count - i) i ≡ none = rw m in
+        let over : first_fault test (count - i) i ≡ none = rw m in
         ap fault (sym over ∙ s)
 
 -- a string has bytes of one class only where a run of that class goes to its end

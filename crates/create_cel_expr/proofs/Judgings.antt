@@ -6,63 +6,63 @@ use lib.ListN.{length}
 use borrow.Author.Tests.{not-true, not-false}
 use Rattle.cel_text.specs.Byte.{Text}
 use Rattle.cel_text.specs.Table.{Words}
-use Rattle.cel_policy.specs.Policy.{Counted, stringCount, strings}
-use Rattle.cel_policy.specs.Printed.{printed, shaped, maxResponseOnly}
-use Rattle.cel_policy.specs.Answers.{placed, spanFits, bytesFit, anyByte, firstFault, Judgement, clean, faulty, unlessFaulty, judgement}
-use Rattle.cel_policy.specs.Answers.{unprinted, unlessJudged, sized, findPrint, PrintAnswer, printAnswered, printAnswer, printOutput}
+use Rattle.cel_policy.specs.Policy.{Counted, string_count, strings}
+use Rattle.cel_policy.specs.Printed.{printed, shaped, max_response_only}
+use Rattle.cel_policy.specs.Answers.{placed, span_fits, bytes_fit, any_byte, first_fault, Judgement, clean, faulty, unless_faulty, judgement}
+use Rattle.cel_policy.specs.Answers.{unprinted, unless_judged, sized, find_print, PrintAnswer, print_answered, print_answer, print_output}
 use Rattle.cel_policy.specs.Laws.SpanTable.{Faultless, clean-faultless}
-use Rattle.cel_policy.specs.Laws.Judging.{SpansInside, faultless-inside, shaped-few, SmallPlace, judgement-small, thenJudged, judgement-any, judgement-then}
+use Rattle.cel_policy.specs.Laws.Judging.{SpansInside, faultless-inside, shaped-few, SmallPlace, judgement-small, then_judged, judgement-any, judgement-then}
 use Rattle.create_cel_expr.specs.declared.Judged.{Judged}
 use Rattle.create_cel_expr.specs.declared.Judged.TheVariants.{Clean, Faulty}
-use Rattle.create_cel_expr.specs.Judged.{judgedAs, Judges, printing}
+use Rattle.create_cel_expr.specs.Judged.{judged_as, Judges, printing}
 use Rattle.create_cel_expr.proofs.Sizes.{Gave}
 
 module _ (k : Counted) (ws : Words) (x : Text) where
   -- 20, and 21 after it
   module _ {r : Bool} (e : r ≡ shaped k) where
-    pub judged-20 : not r ≡ true → faulty 20 0 ≡ judgement anyByte k ws x
+    pub judged-20 : not r ≡ true → faulty 20 0 ≡ judgement any_byte k ws x
     judged-20 t = rw (judgement-any k ws x, sym e ∙ not-true r t)
 
-    pub judged-few : not r ≡ false → {n : ℕ} → n ≡ stringCount k → n ≤ maxResponseOnly
+    pub judged-few : not r ≡ false → {n : ℕ} → n ≡ string_count k → n ≤ max_response_only
     judged-few t h = rw h (shaped-few k (sym e ∙ not-false r t))
 
-    pub judged-21 : not r ≡ false → {n : ℕ} {j : Judgement} → n ≡ stringCount k → j ≡ unlessFaulty 21 (firstFault (spanFits ws x) n 0) clean → j ≡ judgement anyByte k ws x
-    judged-21 t h f = rw (judgement-any k ws x, sym e ∙ not-false r t) (f ∙ ap (λ (n : ℕ). unlessFaulty 21 (firstFault (spanFits ws x) n 0) clean) h)
+    pub judged-21 : not r ≡ false → {n : ℕ} {j : Judgement} → n ≡ string_count k → j ≡ unless_faulty 21 (first_fault (span_fits ws x) n 0) clean → j ≡ judgement any_byte k ws x
+    judged-21 t h f = rw (judgement-any k ws x, sym e ∙ not-false r t) (f ∙ ap (λ (n : ℕ). unless_faulty 21 (first_fault (span_fits ws x) n 0) clean) h)
 
   -- 22 after both
   abbrev odd : (ℕ → Bool) → ℕ → Judgement
-  odd S n = unlessFaulty 22 (firstFault (bytesFit S ws x) n 0) clean
+  odd S n = unless_faulty 22 (first_fault (bytes_fit S ws x) n 0) clean
 
-  module _ (j : Judged) (e : judgedAs j ≡ judgement anyByte k ws x) (S : ℕ → Bool) where
-    after : {g : Judged} → j ≡ g → judgement S k ws x ≡ thenJudged (judgedAs g) (odd S (stringCount k))
-    after f = judgement-then k ws x S ∙ ap (λ (g : Judgement). thenJudged g (odd S (stringCount k))) (sym e ∙ ap judgedAs f)
+  module _ (j : Judged) (e : judged_as j ≡ judgement any_byte k ws x) (S : ℕ → Bool) where
+    after : {g : Judged} → j ≡ g → judgement S k ws x ≡ then_judged (judged_as g) (odd S (string_count k))
+    after f = judgement-then k ws x S ∙ ap (λ (g : Judgement). then_judged g (odd S (string_count k))) (sym e ∙ ap judged_as f)
 
-    pub judged-faulty : {r i : ℕ} → j ≡ Faulty r i → judgedAs j ≡ judgement S k ws x
-    judged-faulty f = ap judgedAs f ∙ sym (after f)
+    pub judged-faulty : {r i : ℕ} → j ≡ Faulty r i → judged_as j ≡ judgement S k ws x
+    judged-faulty f = ap judged_as f ∙ sym (after f)
 
-    pub judged-22 : {n : ℕ} {g : Judgement} → j ≡ Clean → n ≡ stringCount k → g ≡ odd S n → g ≡ judgement S k ws x
+    pub judged-22 : {n : ℕ} {g : Judgement} → j ≡ Clean → n ≡ string_count k → g ≡ odd S n → g ≡ judgement S k ws x
     judged-22 f h i = i ∙ ap (odd S) h ∙ sym (after f)
 
-  pub judged-inside : (j : Judged) {n : ℕ} → judgedAs j ≡ judgement anyByte k ws x → j ≡ Clean → n ≡ stringCount k → SpansInside ws x n 0
-  judged-inside j e f h = rw h (faultless-inside (clean-faultless anyByte k ws x (sym e ∙ ap judgedAs f)))
+  pub judged-inside : (j : Judged) {n : ℕ} → judged_as j ≡ judgement any_byte k ws x → j ≡ Clean → n ≡ string_count k → SpansInside ws x n 0
+  judged-inside j e f h = rw h (faultless-inside (clean-faultless any_byte k ws x (sym e ∙ ap judged_as f)))
 
   -- what was judged, by whatever set
   module _ {j : Judged} (h : Judges k ws x j) where
-    pub judges-small : {r i : ℕ} → j ≡ Faulty r i → i ≤ maxResponseOnly
-    judges-small e = subst SmallPlace (sym h.same ∙ ap judgedAs e) (judgement-small h.set k ws x)
+    pub judges-small : {r i : ℕ} → j ≡ Faulty r i → i ≤ max_response_only
+    judges-small e = subst SmallPlace (sym h.same ∙ ap judged_as e) (judgement-small h.set k ws x)
 
     faultless : j ≡ Clean → Faultless h.set k ws x
-    faultless e = clean-faultless h.set k ws x (sym h.same ∙ ap judgedAs e)
+    faultless e = clean-faultless h.set k ws x (sym h.same ∙ ap judged_as e)
 
-    pub judges-inside : j ≡ Clean → SpansInside ws x (stringCount k) 0
+    pub judges-inside : j ≡ Clean → SpansInside ws x (string_count k) 0
     judges-inside e = faultless-inside (faultless e)
 
-    pub judges-few : j ≡ Clean → stringCount k ≤ maxResponseOnly
+    pub judges-few : j ≡ Clean → string_count k ≤ max_response_only
     judges-few e = shaped-few k (faultless e).shape
 
   -- what is printed after it
   module _ (j : Judged) (out : Text) where
-    pub gave-faulty : {a : PrintAnswer} {r i : ℕ} → j ≡ Faulty r i → a ≡ printAnswered (unprinted r i) → Gave a out out (printing j k ws x (length out))
+    pub gave-faulty : {a : PrintAnswer} {r i : ℕ} → j ≡ Faulty r i → a ≡ print_answered (unprinted r i) → Gave a out out (printing j k ws x (length out))
     gave-faulty f e = rw f (e, refl)
 
     module _ {a : PrintAnswer} {out' : Text} where
@@ -70,7 +70,7 @@ module _ (k : Counted) (ws : Words) (x : Text) where
       gave-clean f t = rw f t
 
       pub gave-by :
-          (S : ℕ → Bool) → judgedAs j ≡ judgement S k ws x → Gave a out out' (printing j k ws x (length out))
-          → (a ≡ printAnswer S k ws x (length out)) × (out' ≡ printOutput S k ws x out)
-      unfolding printAnswer printOutput findPrint
-      gave-by S e t = subst (λ (g : Judgement). Gave a out out' (unlessJudged g (sized (printed (strings x (placed k ws))) (length out)))) e t
+          (S : ℕ → Bool) → judged_as j ≡ judgement S k ws x → Gave a out out' (printing j k ws x (length out))
+          → (a ≡ print_answer S k ws x (length out)) × (out' ≡ print_output S k ws x out)
+      unfolding print_answer print_output find_print
+      gave-by S e t = subst (λ (g : Judgement). Gave a out out' (unless_judged g (sized (printed (strings x (placed k ws))) (length out)))) e t

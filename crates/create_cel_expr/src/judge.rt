@@ -1,11 +1,11 @@
 // What a policy is refused for before its text is measured: 20 to 22, each judged over all strings before the next.
 ghost use Rattle.std.specs.Prelude.{◌≡◌, ◌≤◌};
 ghost use Rattle.cel_policy.specs.Policy.{numbers};
-ghost use Rattle.cel_policy.specs.Printed.{shaped, maxResponseOnly};
-ghost use Rattle.cel_policy.specs.Answers.{spanFits, bytesFit, anyByte, firstFault, clean, unlessFaulty, judgement};
+ghost use Rattle.cel_policy.specs.Printed.{shaped, max_response_only};
+ghost use Rattle.cel_policy.specs.Answers.{span_fits, bytes_fit, any_byte, first_fault, clean, unless_faulty, judgement};
 ghost use Rattle.cel_policy.specs.Laws.Judging.{SpanInside, SpansInside};
-ghost use Rattle.parser.specs.Set.{stringSet};
-ghost use Rattle.create_cel_expr.specs.Judged.{judgedAs};
+ghost use Rattle.parser.specs.Set.{string_set};
+ghost use Rattle.create_cel_expr.specs.Judged.{judged_as};
 
 use crate::{Judged, NO_STRING_BYTE, SPAN_OUTSIDE, WRONG_SHAPE, span};
 use cel_policy::{EXCLUSIONS, FULL, Policy, RESPONSE_ONLY, SKIP};
@@ -49,8 +49,8 @@ fn shape(policy: Policy) -> bool
 
 // Whether string i's span is in its table, ordered and inside the text.
 fn inside(text: &[u8], spans: &[u32], i: usize) -> bool
-    requires { i ≤ maxResponseOnly }
-    ensures { result ≡ spanFits spans.now text.now i }
+    requires { i ≤ max_response_only }
+    ensures { result ≡ span_fits spans.now text.now i }
 {
     if spans.len() <= 2 * i + 1 {
         return false;
@@ -65,8 +65,8 @@ fn inside(text: &[u8], spans: &[u32], i: usize) -> bool
 
 // 21: the first string whose span is not.
 fn first_outside(text: &[u8], spans: &[u32], count: usize) -> Judged
-    requires { count ≤ maxResponseOnly }
-    ensures { judgedAs result ≡ unlessFaulty 21 (firstFault (spanFits spans.now text.now) count 0) clean }
+    requires { count ≤ max_response_only }
+    ensures { judged_as result ≡ unless_faulty 21 (first_fault (span_fits spans.now text.now) count 0) clean }
 {
     let mut i = 0;
     while i < count {
@@ -81,7 +81,7 @@ fn first_outside(text: &[u8], spans: &[u32], count: usize) -> Judged
 // Whether string i has string bytes only.
 fn plain(text: &[u8], spans: &[u32], i: usize) -> bool
     requires { SpanInside spans.now text.now i }
-    ensures { result ≡ bytesFit stringSet spans.now text.now i }
+    ensures { result ≡ bytes_fit string_set spans.now text.now i }
 {
     let string = span::string(text, spans, i);
     let end = scan::run_of(string, Place(0), Class::StringByte);
@@ -91,7 +91,7 @@ fn plain(text: &[u8], spans: &[u32], i: usize) -> bool
 // 22: the first string that has another byte.
 fn first_odd(text: &[u8], spans: &[u32], count: usize) -> Judged
     requires { SpansInside spans.now text.now count 0 }
-    ensures { judgedAs result ≡ unlessFaulty 22 (firstFault (bytesFit stringSet spans.now text.now) count 0) clean }
+    ensures { judged_as result ≡ unless_faulty 22 (first_fault (bytes_fit string_set spans.now text.now) count 0) clean }
 {
     let mut i = 0;
     while i < count {
@@ -105,7 +105,7 @@ fn first_odd(text: &[u8], spans: &[u32], count: usize) -> Judged
 
 // 20 and 21: all that is judged where any byte may stand in a string.
 pub(crate) fn over_any(policy: Policy, text: &[u8], spans: &[u32]) -> Judged
-    ensures { judgedAs result ≡ judgement anyByte (numbers policy) spans.now text.now }
+    ensures { judged_as result ≡ judgement any_byte (numbers policy) spans.now text.now }
 {
     if !shape(policy) {
         return Judged::Faulty(WRONG_SHAPE, 0);
@@ -115,7 +115,7 @@ pub(crate) fn over_any(policy: Policy, text: &[u8], spans: &[u32]) -> Judged
 
 // And 22.
 pub(crate) fn over_set(policy: Policy, text: &[u8], spans: &[u32]) -> Judged
-    ensures { judgedAs result ≡ judgement stringSet (numbers policy) spans.now text.now }
+    ensures { judged_as result ≡ judgement string_set (numbers policy) spans.now text.now }
 {
     let judged = over_any(policy, text, spans);
     match judged {

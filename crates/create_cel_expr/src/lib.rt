@@ -7,11 +7,11 @@ mod write;
 
 ghost use Rattle.std.specs.Prelude.{◌≡◌, ◌≤◌, length};
 ghost use Rattle.cel_policy.specs.Policy.{numbers};
-ghost use Rattle.cel_policy.specs.Printed.{maxResponseOnly};
-ghost use Rattle.cel_policy.specs.Answers.{anyByte, judgement, unprinted, printAnswered, output, printAnswer, printOutput};
-ghost use Rattle.create_cel_expr.specs.Given.{printTold};
-ghost use Rattle.parser.specs.Set.{stringSet};
-ghost use Rattle.create_cel_expr.specs.Judged.{judgedAs, Judges, printing};
+ghost use Rattle.cel_policy.specs.Printed.{max_response_only};
+ghost use Rattle.cel_policy.specs.Answers.{any_byte, judgement, unprinted, print_answered, output, print_answer, print_output};
+ghost use Rattle.create_cel_expr.specs.Given.{print_told};
+ghost use Rattle.parser.specs.Set.{string_set};
+ghost use Rattle.create_cel_expr.specs.Judged.{judged_as, Judges, printing};
 
 use cel_policy::Policy;
 use parser::MAX_TEXT;
@@ -46,15 +46,15 @@ pub const OUTPUT_TOO_SHORT: u32 = 24;
 
 // Judges a policy given by anyone: its shape, then every span, then every string's bytes.
 pub fn judge_policy(policy: Policy, text: &[u8], spans: &[u32]) -> Judged
-    ensures { judgedAs result ≡ judgement stringSet (numbers policy) spans.now text.now }
+    ensures { judged_as result ≡ judgement string_set (numbers policy) spans.now text.now }
 {
     judge::over_set(policy, text, spans)
 }
 
 // Writes the policy's text to the front of `out`, or refuses with 20 to 24 and leaves `out` as it is.
 pub fn print_policy(policy: Policy, text: &[u8], spans: &[u32], out: &mut [u8]) -> Printed
-    ensures answer { printTold result ≡ printAnswer stringSet (numbers policy) spans.now text.now (length out.old) }
-    ensures output { out.new ≡ printOutput stringSet (numbers policy) spans.now text.now out.old }
+    ensures answer { print_told result ≡ print_answer string_set (numbers policy) spans.now text.now (length out.old) }
+    ensures output { out.new ≡ print_output string_set (numbers policy) spans.now text.now out.old }
 {
     let judged = judge_policy(policy, text, spans);
     print_judged(judged, policy, text, spans, out)
@@ -62,8 +62,8 @@ pub fn print_policy(policy: Policy, text: &[u8], spans: &[u32], out: &mut [u8]) 
 
 // The same where any byte may stand in a string, as for strings that were read: 22 falls away.
 pub fn print_any(policy: Policy, text: &[u8], spans: &[u32], out: &mut [u8]) -> Printed
-    ensures answer { printTold result ≡ printAnswer anyByte (numbers policy) spans.now text.now (length out.old) }
-    ensures output { out.new ≡ printOutput anyByte (numbers policy) spans.now text.now out.old }
+    ensures answer { print_told result ≡ print_answer any_byte (numbers policy) spans.now text.now (length out.old) }
+    ensures output { out.new ≡ print_output any_byte (numbers policy) spans.now text.now out.old }
 {
     let judged = judge::over_any(policy, text, spans);
     print_judged(judged, policy, text, spans, out)
@@ -78,7 +78,7 @@ fn print_judged(
     out: &mut [u8],
 ) -> Printed
     requires { Judges (numbers policy) spans.now text.now judged }
-    ensures answer { printTold result ≡ printAnswered (printing judged (numbers policy) spans.now text.now (length out.old)) }
+    ensures answer { print_told result ≡ print_answered (printing judged (numbers policy) spans.now text.now (length out.old)) }
     ensures output { out.new ≡ output (printing judged (numbers policy) spans.now text.now (length out.old)) out.old }
 {
     if let Judged::Faulty(refusal, index) = judged {
@@ -102,8 +102,8 @@ fn print_judged(
 }
 
 fn refused(refusal: u32, index: usize) -> Printed
-    requires { index ≤ maxResponseOnly }
-    ensures { printTold result ≡ printAnswered (unprinted refusal index) }
+    requires { index ≤ max_response_only }
+    ensures { print_told result ≡ print_answered (unprinted refusal index) }
 {
     Printed {
         refusal,

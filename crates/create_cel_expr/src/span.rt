@@ -1,7 +1,7 @@
 // The span table: string i has its words 2 i and 2 i + 1; the request's strings come first, then the query's, then the response's.
 ghost use Rattle.std.specs.Prelude.{◌≡◌, suc, ◌+◌, ◌*◌, ◌<◌, length};
-ghost use Rattle.cel_policy.specs.Policy.{content, stringCount, numbers};
-ghost use Rattle.cel_policy.specs.Spans.{spanAt};
+ghost use Rattle.cel_policy.specs.Policy.{content, string_count, numbers};
+ghost use Rattle.cel_policy.specs.Spans.{span_at};
 ghost use Rattle.cel_policy.specs.Laws.Judging.{SpanInside};
 
 use cel_policy::Policy;
@@ -15,7 +15,7 @@ fn wide(word: u32) -> usize
 // Where string i begins.
 pub(crate) fn from(spans: &[u32], i: usize) -> usize
     requires { suc (2 * i) < length spans.now }
-    ensures { result ≡ (spanAt spans.now i).from }
+    ensures { result ≡ (span_at spans.now i).from }
 {
     wide(spans[2 * i])
 }
@@ -23,7 +23,7 @@ pub(crate) fn from(spans: &[u32], i: usize) -> usize
 // The place after its end.
 pub(crate) fn to(spans: &[u32], i: usize) -> usize
     requires { suc (2 * i) < length spans.now }
-    ensures { result ≡ (spanAt spans.now i).to }
+    ensures { result ≡ (span_at spans.now i).to }
 {
     wide(spans[2 * i + 1])
 }
@@ -31,7 +31,7 @@ pub(crate) fn to(spans: &[u32], i: usize) -> usize
 // String i.
 pub(crate) fn string<'a, 'b>(text: &'a [u8], spans: &'b [u32], i: usize) -> &'a [u8]
     requires { SpanInside spans.now text.now i }
-    ensures { result.now ≡ content text.now (spanAt spans.now i) }
+    ensures { result.now ≡ content text.now (span_at spans.now i) }
 {
     let start = from(spans, i);
     let end = to(spans, i);
@@ -47,7 +47,7 @@ pub(crate) fn response(policy: Policy) -> usize
 
 // How many strings there are.
 pub(crate) fn count(policy: Policy) -> usize
-    ensures { result ≡ stringCount (numbers policy) }
+    ensures { result ≡ string_count (numbers policy) }
 {
     response(policy) + wide(policy.response)
 }

@@ -1,12 +1,12 @@
 // The text, piece by piece. Each function writes from a place on and answers the place after what it wrote.
 ghost use Rattle.std.specs.Prelude.{◌++◌};
 ghost use Rattle.cel_text.specs.Byte.{bytes};
-ghost use Rattle.cel_policy.specs.Policy.{content, stringCount, numbers};
-ghost use Rattle.cel_policy.specs.Spans.{spanAt};
-ghost use Rattle.cel_policy.specs.Printed.{listText, listKey, requestText, responseText, skipText, responseOnlyText, fullText, printed};
+ghost use Rattle.cel_policy.specs.Policy.{content, string_count, numbers};
+ghost use Rattle.cel_policy.specs.Spans.{span_at};
+ghost use Rattle.cel_policy.specs.Printed.{list_text, list_key, request_text, response_text, skip_text, response_only_text, full_text, printed};
 ghost use Rattle.cel_policy.specs.Laws.Judging.{SpanInside, SpansInside};
 ghost use Rattle.pieces.specs.Pieces.{Wrote, Fits};
-ghost use Rattle.create_cel_expr.specs.Given.{policyOf, stringsAt};
+ghost use Rattle.create_cel_expr.specs.Given.{policy_of, strings_at};
 
 use crate::span;
 use cel_policy::{EXCLUSIONS, Policy, RESPONSE_ONLY, SKIP};
@@ -23,8 +23,8 @@ fn put(out: &mut [u8], at: usize, piece: &[u8]) -> usize
 // String i.
 fn string(out: &mut [u8], at: usize, text: &[u8], spans: &[u32], i: usize) -> usize
     requires span_inside { SpanInside spans.now text.now i }
-    requires fits { Fits out.old at (content text.now (spanAt spans.now i)) }
-    ensures { Wrote out.old out.new at result (content text.now (spanAt spans.now i)) }
+    requires fits { Fits out.old at (content text.now (span_at spans.now i)) }
+    ensures { Wrote out.old out.new at result (content text.now (span_at spans.now i)) }
 {
     put(out, at, span::string(text, spans, i))
 }
@@ -32,8 +32,8 @@ fn string(out: &mut [u8], at: usize, text: &[u8], spans: &[u32], i: usize) -> us
 // String i after the one before it.
 fn next(out: &mut [u8], at: usize, text: &[u8], spans: &[u32], i: usize) -> usize
     requires span_inside { SpanInside spans.now text.now i }
-    requires fits { Fits out.old at (bytes "\",\"" ++ content text.now (spanAt spans.now i)) }
-    ensures { Wrote out.old out.new at result (bytes "\",\"" ++ content text.now (spanAt spans.now i)) }
+    requires fits { Fits out.old at (bytes "\",\"" ++ content text.now (span_at spans.now i)) }
+    ensures { Wrote out.old out.new at result (bytes "\",\"" ++ content text.now (span_at spans.now i)) }
 {
     let past = put(out, at, b"\",\"");
     string(out, past, text, spans, i)
@@ -42,8 +42,8 @@ fn next(out: &mut [u8], at: usize, text: &[u8], spans: &[u32], i: usize) -> usiz
 // The first string of a list, after its quote.
 fn first(out: &mut [u8], at: usize, text: &[u8], spans: &[u32], i: usize) -> usize
     requires span_inside { SpanInside spans.now text.now i }
-    requires fits { Fits out.old at (bytes "\"" ++ content text.now (spanAt spans.now i)) }
-    ensures { Wrote out.old out.new at result (bytes "\"" ++ content text.now (spanAt spans.now i)) }
+    requires fits { Fits out.old at (bytes "\"" ++ content text.now (span_at spans.now i)) }
+    ensures { Wrote out.old out.new at result (bytes "\"" ++ content text.now (span_at spans.now i)) }
 {
     let past = put(out, at, b"\"");
     string(out, past, text, spans, i)
@@ -60,8 +60,8 @@ fn last(out: &mut [u8], at: usize) -> usize
 // The strings from string `begin` on, `count` of them.
 fn list(out: &mut [u8], at: usize, text: &[u8], spans: &[u32], begin: usize, count: usize) -> usize
     requires spans_inside { SpansInside spans.now text.now count begin }
-    requires fits { Fits out.old at (listText (stringsAt text.now spans.now count begin)) }
-    ensures { Wrote out.old out.new at result (listText (stringsAt text.now spans.now count begin)) }
+    requires fits { Fits out.old at (list_text (strings_at text.now spans.now count begin)) }
+    ensures { Wrote out.old out.new at result (list_text (strings_at text.now spans.now count begin)) }
 {
     if count == 0 {
         return at;
@@ -83,9 +83,9 @@ fn create_request_cel_expr(
     text: &[u8],
     spans: &[u32],
 ) -> usize
-    requires spans_inside { SpansInside spans.now text.now (stringCount (numbers policy)) 0 }
-    requires fits { Fits out.old at (requestText (policyOf policy text.now spans.now)) }
-    ensures { Wrote out.old out.new at result (requestText (policyOf policy text.now spans.now)) }
+    requires spans_inside { SpansInside spans.now text.now (string_count (numbers policy)) 0 }
+    requires fits { Fits out.old at (request_text (policy_of policy text.now spans.now)) }
+    ensures { Wrote out.old out.new at result (request_text (policy_of policy text.now spans.now)) }
 {
     let request = policy.request as usize;
     let query = policy.query as usize;
@@ -102,8 +102,8 @@ fn create_request_cel_expr(
 
 // The key of the response list.
 fn list_key(out: &mut [u8], at: usize, kind: u32) -> usize
-    requires { Fits out.old at (listKey kind) }
-    ensures { Wrote out.old out.new at result (listKey kind) }
+    requires { Fits out.old at (list_key kind) }
+    ensures { Wrote out.old out.new at result (list_key kind) }
 {
     if kind == EXCLUSIONS {
         return put(out, at, b"response_header_exclusions");
@@ -119,9 +119,9 @@ fn create_response_cel_expr(
     text: &[u8],
     spans: &[u32],
 ) -> usize
-    requires spans_inside { SpansInside spans.now text.now (stringCount (numbers policy)) 0 }
-    requires fits { Fits out.old at (responseText (policyOf policy text.now spans.now)) }
-    ensures { Wrote out.old out.new at result (responseText (policyOf policy text.now spans.now)) }
+    requires spans_inside { SpansInside spans.now text.now (string_count (numbers policy)) 0 }
+    requires fits { Fits out.old at (response_text (policy_of policy text.now spans.now)) }
+    ensures { Wrote out.old out.new at result (response_text (policy_of policy text.now spans.now)) }
 {
     let begin = span::response(policy);
     let opened = put(out, at, b"response_certification:ResponseCertification{");
@@ -132,8 +132,8 @@ fn create_response_cel_expr(
 }
 
 fn create_default_skip_cel_expr(out: &mut [u8]) -> usize
-    requires { Fits out.old 0 skipText }
-    ensures { Wrote out.old out.new 0 result skipText }
+    requires { Fits out.old 0 skip_text }
+    ensures { Wrote out.old out.new 0 result skip_text }
 {
     put(
         out,
@@ -148,9 +148,9 @@ fn create_default_response_only_cel_expr(
     text: &[u8],
     spans: &[u32],
 ) -> usize
-    requires spans_inside { SpansInside spans.now text.now (stringCount (numbers policy)) 0 }
-    requires fits { Fits out.old 0 (responseOnlyText (policyOf policy text.now spans.now)) }
-    ensures { Wrote out.old out.new 0 result (responseOnlyText (policyOf policy text.now spans.now)) }
+    requires spans_inside { SpansInside spans.now text.now (string_count (numbers policy)) 0 }
+    requires fits { Fits out.old 0 (response_only_text (policy_of policy text.now spans.now)) }
+    ensures { Wrote out.old out.new 0 result (response_only_text (policy_of policy text.now spans.now)) }
 {
     let opened = put(
         out,
@@ -162,9 +162,9 @@ fn create_default_response_only_cel_expr(
 }
 
 fn create_default_full_cel_expr(out: &mut [u8], policy: Policy, text: &[u8], spans: &[u32]) -> usize
-    requires spans_inside { SpansInside spans.now text.now (stringCount (numbers policy)) 0 }
-    requires fits { Fits out.old 0 (fullText (policyOf policy text.now spans.now)) }
-    ensures { Wrote out.old out.new 0 result (fullText (policyOf policy text.now spans.now)) }
+    requires spans_inside { SpansInside spans.now text.now (string_count (numbers policy)) 0 }
+    requires fits { Fits out.old 0 (full_text (policy_of policy text.now spans.now)) }
+    ensures { Wrote out.old out.new 0 result (full_text (policy_of policy text.now spans.now)) }
 {
     let opened = put(
         out,
@@ -178,9 +178,9 @@ fn create_default_full_cel_expr(out: &mut [u8], policy: Policy, text: &[u8], spa
 
 // The whole text.
 pub(crate) fn create_cel_expr(out: &mut [u8], policy: Policy, text: &[u8], spans: &[u32]) -> usize
-    requires spans_inside { SpansInside spans.now text.now (stringCount (numbers policy)) 0 }
-    requires fits { Fits out.old 0 (printed (policyOf policy text.now spans.now)) }
-    ensures { Wrote out.old out.new 0 result (printed (policyOf policy text.now spans.now)) }
+    requires spans_inside { SpansInside spans.now text.now (string_count (numbers policy)) 0 }
+    requires fits { Fits out.old 0 (printed (policy_of policy text.now spans.now)) }
+    ensures { Wrote out.old out.new 0 result (printed (policy_of policy text.now spans.now)) }
 {
     let form = policy.form;
     if form == SKIP {

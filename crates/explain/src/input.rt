@@ -1,6 +1,6 @@
 // The bytes of a text, from a file or from standard input.
 ghost use Rattle.std.specs.Prelude.{suc, ◌≤◌, length, ◌≡◌};
-ghost use Rattle.cel_text.specs.Answer.{maxText};
+ghost use Rattle.cel_text.specs.Answer.{max_text};
 
 use parser::MAX_TEXT;
 
@@ -16,7 +16,7 @@ const ROOM: usize = MAX_TEXT + 1;
 
 // Room for it. The `ensures` gives the length, which lending a part needs.
 pub(crate) fn text_room() -> [u8; ROOM]
-    ensures { suc maxText ≡ length result }
+    ensures { suc max_text ≡ length result }
 {
     [0; ROOM]
 }

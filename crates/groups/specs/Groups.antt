@@ -14,16 +14,16 @@ pub record Shortest (x : List ℕ) (n : ℕ) : Type 0 where
   pub least : (y : List ℕ) → Grouped y n → length x ≤ length y
 
 -- the shortest form of n, where that has at most left + 1 groups
-abbrev pub groupsIn : (left n : ℕ) → List ℕ
-groupsIn zero n = n ∷ []
-groupsIn (suc left) n = cond (ltb n 128) (n ∷ []) ((128 + n % 128) ∷ groupsIn left (n / 128))
+abbrev pub groups_in : (left n : ℕ) → List ℕ
+groups_in zero n = n ∷ []
+groups_in (suc left) n = cond (ltb n 128) (n ∷ []) ((128 + n % 128) ∷ groups_in left (n / 128))
 
 -- “the greatest is 2,097,151”
-abbrev pub maxNumber : ℕ
-maxNumber = 2097151
+abbrev pub max_number : ℕ
+max_number = 2097151
 
 unfoldable pub groups : ℕ → List ℕ
-groups n = groupsIn 2 n
+groups n = groups_in 2 n
 
 -- a group that another follows, before what is read there: a number of 0 is a last group of 0, which “is not in its shortest form”
 abbrev pub before : (b : ℕ) → Number → Number

@@ -6,14 +6,14 @@ use Rattle.std.proofs.lemmas.Bool.{eqb-false}
 use borrow.Table.Steps.{cases}
 use Rattle.groups.specs.declared.Number.{Number}
 use Rattle.groups.specs.declared.Number.TheVariants.{Whole, Cut, Padded, TooMany}
-use Rattle.groups.specs.Groups.{Grouped, last, more, Shortest, groupsIn, groups, maxNumber, before, number_in, number}
+use Rattle.groups.specs.Groups.{Grouped, last, more, Shortest, groups_in, groups, max_number, before, number_in, number}
 
 -- a number below 128 is its own form; a greater one begins with a group of its low bits
-small-form : (left n : ℕ) → n < 128 → groupsIn left n ≡ n ∷ []
+small-form : (left n : ℕ) → n < 128 → groups_in left n ≡ n ∷ []
 small-form zero n h = refl
 small-form (suc left) n h = rw (lt-ltb n 128 h)
 
-great-form : (left n : ℕ) → 128 ≤ n → groupsIn (suc left) n ≡ (128 + n % 128) ∷ groupsIn left (n / 128)
+great-form : (left n : ℕ) → 128 ≤ n → groups_in (suc left) n ≡ (128 + n % 128) ∷ groups_in left (n / 128)
 great-form left n h = rw (le-ltb n 128 h)
 
 -- the rest of a number of more than one group
@@ -30,24 +30,24 @@ read_small (suc left) b x h = rw (lt-ltb b 128 h)
 before-some : (b m size : ℕ) → (m ≡ 0 → ⊥) → before b (Whole m size) ≡ Whole (b - 128 + 128 * m) (suc size)
 before-some b m size h = rw (ne_eqb m 0 h)
 
-number-groupsIn : (left n : ℕ) (x : List ℕ) → n < 128 ^ suc left → number_in left (groupsIn left n ++ x) ≡ Whole n (length (groupsIn left n))
-number-groupsIn zero n x h = read_small zero n x (omega arith)
-number-groupsIn (suc left) n x h =
+number-groups_in : (left n : ℕ) (x : List ℕ) → n < 128 ^ suc left → number_in left (groups_in left n ++ x) ≡ Whole n (length (groups_in left n))
+number-groups_in zero n x h = read_small zero n x (omega arith)
+number-groups_in (suc left) n x h =
     cases (ltb n 128)
     (λ e. let s : n < 128 = ltb-true n 128 e in rw (small-form (suc left) n s) (read_small (suc left) n x s))
     (λ e. let o : 128 ≤ n = ltb-false n 128 e in
-    let i : number_in left (groupsIn left (n / 128) ++ x) ≡ Whole (n / 128) (length (groupsIn left (n / 128))) = number-groupsIn left (n / 128) x (rest-small left n h) in
+    let i : number_in left (groups_in left (n / 128) ++ x) ≡ Whole (n / 128) (length (groups_in left (n / 128))) = number-groups_in left (n / 128) x (rest-small left n h) in
     let v : 128 + n % 128 - 128 + 128 * (n / 128) ≡ n = omega arith in
     rw (great-form left n o, le-ltb (128 + n % 128) 128 (omega arith), i)
-    (before-some (128 + n % 128) (n / 128) (length (groupsIn left (n / 128))) (λ z. omega (arith, z))
-    ∙ ap (λ (k : ℕ). Whole k (suc (length (groupsIn left (n / 128))))) v))
+    (before-some (128 + n % 128) (n / 128) (length (groups_in left (n / 128))) (λ z. omega (arith, z))
+    ∙ ap (λ (k : ℕ). Whole k (suc (length (groups_in left (n / 128))))) v))
 
-pub number-groups : (n : ℕ) (x : List ℕ) → n ≤ maxNumber → number (groups n ++ x) ≡ Whole n (length (groups n))
+pub number-groups : (n : ℕ) (x : List ℕ) → n ≤ max_number → number (groups n ++ x) ≡ Whole n (length (groups n))
 unfolding groups number
-number-groups n x h = number-groupsIn 2 n x (omega arith)
+number-groups n x h = number-groups_in 2 n x (omega arith)
 
 -- no form is a beginning of another
-pub groups-apart : (m n : ℕ) (x y : List ℕ) → m ≤ maxNumber → n ≤ maxNumber → groups m ++ x ≡ groups n ++ y → (m ≡ n) × (x ≡ y)
+pub groups-apart : (m n : ℕ) (x y : List ℕ) → m ≤ max_number → n ≤ max_number → groups m ++ x ≡ groups n ++ y → (m ≡ n) × (x ≡ y)
 groups-apart m n x y h l e =
     let a : number (groups m ++ x) ≡ Whole m (length (groups m)) = number-groups m x h in
     let b : number (groups n ++ y) ≡ Whole n (length (groups n)) = number-groups n y l in
@@ -66,8 +66,8 @@ Bytes (b ∷ x) = (b < 256) × Bytes x
 -- what is read of at most left + 1 groups is the form of that number, and then the rest
 pub record Front (left : ℕ) (x : List ℕ) (n size : ℕ) : Type 0 where
   pub bound : n < 128 ^ suc left
-  pub long : size ≡ length (groupsIn left n)
-  pub front : x ≡ groupsIn left n ++ drop size x
+  pub long : size ≡ length (groups_in left n)
+  pub front : x ≡ groups_in left n ++ drop size x
 
 -- the outcomes differ
 not-cut : {P : Type 0} {q : Number} {n size : ℕ} → q ≡ Cut → q ≡ Whole n size → P
@@ -98,7 +98,7 @@ more-front left b x m k n size o s some f e =
     let great : 128 ≤ n = omega arith in
     let high : n / 128 ≡ m = omega arith in
     let low : 128 + n % 128 ≡ b = omega arith in
-    let form : groupsIn (suc left) n ≡ b ∷ groupsIn left m = great-form left n great ∙ rw (high, low) in
+    let form : groups_in (suc left) n ≡ b ∷ groups_in left m = great-form left n great ∙ rw (high, low) in
     rw (sym z)
     (record {
       bound = let l : m < 128 ^ suc left = f.bound in rw (pow-suc 128 (suc left)) (omega arith);
@@ -126,7 +126,7 @@ front-number (suc left) (b ∷ x) n size bs e =
     (λ t. before-front left b x n size (ltb-false b 128 t) bs.0 (number_in left x) (λ m k q. front-number left x m k bs.1 q) (rw t at e))
 
 -- a number that is read is at most 2,097,151, and its bytes are its form
-pub groups-number : (x : List ℕ) (n size : ℕ) → Bytes x → number x ≡ Whole n size → (n ≤ maxNumber) × (size ≡ length (groups n)) × (x ≡ groups n ++ drop size x)
+pub groups-number : (x : List ℕ) (n size : ℕ) → Bytes x → number x ≡ Whole n size → (n ≤ max_number) × (size ≡ length (groups n)) × (x ≡ groups n ++ drop size x)
 unfolding groups number
 groups-number x n size bs e =
     let f : Front 2 x n size = front-number 2 x n size bs e in
@@ -147,17 +147,17 @@ before-settled b Cut r f h = absurd h
 before-settled b Padded r f h = ap (before b) (f tt)
 before-settled b TooMany r f h = ap (before b) (f tt)
 
-numberIn-append : (left : ℕ) (x y : List ℕ) → Settled (number_in left x) → number_in left (x ++ y) ≡ number_in left x
-numberIn-append left [] y h = absurd h
-numberIn-append zero (b ∷ x) y h = refl
-numberIn-append (suc left) (b ∷ x) y h =
+number_in-append : (left : ℕ) (x y : List ℕ) → Settled (number_in left x) → number_in left (x ++ y) ≡ number_in left x
+number_in-append left [] y h = absurd h
+number_in-append zero (b ∷ x) y h = refl
+number_in-append (suc left) (b ∷ x) y h =
     cases (ltb b 128)
     (λ t. rw t)
-    (λ t. rw t (before-settled b (number_in left x) (number_in left (x ++ y)) (numberIn-append left x y) (rw t at h)))
+    (λ t. rw t (before-settled b (number_in left x) (number_in left (x ++ y)) (number_in-append left x y) (rw t at h)))
 
 pub number_append : (x y : List ℕ) → Settled (number x) → number (x ++ y) ≡ number x
 unfolding number
-number_append x y h = numberIn-append 2 x y h
+number_append x y h = number_in-append 2 x y h
 
 -- a number lies in the bytes; one that is cut short has fewer groups than it may have
 abbrev pub Fits : (left held : ℕ) → Number → Type 0
@@ -173,37 +173,37 @@ before-fits left held b Cut f = omega arith
 before-fits left held b Padded f = omega arith
 before-fits left held b TooMany f = omega arith
 
-numberIn-fits : (left : ℕ) (x : List ℕ) → Fits left (length x) (number_in left x)
-numberIn-fits left [] = omega arith
-numberIn-fits zero (b ∷ x) = cases (ltb b 128) (λ t. rw t (omega arith, omega arith, omega arith)) (λ t. rw t (omega arith))
-numberIn-fits (suc left) (b ∷ x) =
-    cases (ltb b 128) (λ t. rw t (omega arith, omega arith, omega arith)) (λ t. rw t (before-fits left (length x) b (number_in left x) (numberIn-fits left x)))
+number_in-fits : (left : ℕ) (x : List ℕ) → Fits left (length x) (number_in left x)
+number_in-fits left [] = omega arith
+number_in-fits zero (b ∷ x) = cases (ltb b 128) (λ t. rw t (omega arith, omega arith, omega arith)) (λ t. rw t (omega arith))
+number_in-fits (suc left) (b ∷ x) =
+    cases (ltb b 128) (λ t. rw t (omega arith, omega arith, omega arith)) (λ t. rw t (before-fits left (length x) b (number_in left x) (number_in-fits left x)))
 
 pub number_fits : (x : List ℕ) → Fits 2 (length x) (number x)
 unfolding number
-number_fits x = numberIn-fits 2 x
+number_fits x = number_in-fits 2 x
 
 -- ---- the form is the shortest, and the only one so short
 
 -- at most three groups
-length-groupsIn : (left n : ℕ) → length (groupsIn left n) ≤ suc left
-length-groupsIn zero n = omega arith
-length-groupsIn (suc left) n = cases (ltb n 128) (λ e. rw e (omega arith)) (λ e. rw e (omega (arith, length-groupsIn left (n / 128))))
+length-groups_in : (left n : ℕ) → length (groups_in left n) ≤ suc left
+length-groups_in zero n = omega arith
+length-groups_in (suc left) n = cases (ltb n 128) (λ e. rw e (omega arith)) (λ e. rw e (omega (arith, length-groups_in left (n / 128))))
 
 pub length-groups : (n : ℕ) → length (groups n) ≤ 3
 unfolding groups
-length-groups n = length-groupsIn 2 n
+length-groups n = length-groups_in 2 n
 
 grouped-some : {x : List ℕ} {n : ℕ} → Grouped x n → 1 ≤ length x
 grouped-some (last h) = omega arith
 grouped-some (more s o g e) = omega arith
 
-groupsIn-grouped : (left n : ℕ) → n < 128 ^ suc left → Grouped (groupsIn left n) n
-groupsIn-grouped zero n h = last h
-groupsIn-grouped (suc left) n h =
+groups_in-grouped : (left n : ℕ) → n < 128 ^ suc left → Grouped (groups_in left n) n
+groups_in-grouped zero n h = last h
+groups_in-grouped (suc left) n h =
     cases (ltb n 128)
     (λ e. rw e (last (ltb-true n 128 e)))
-    (λ e. rw e (more {b = 128 + n % 128} {n = n} (omega arith) (omega arith) (groupsIn-grouped left (n / 128) (rest-small left n h)) (omega arith)))
+    (λ e. rw e (more {b = 128 + n % 128} {n = n} (omega arith) (omega arith) (groups_in-grouped left (n / 128) (rest-small left n h)) (omega arith)))
 
 module _ (b m n : ℕ) (s : 128 ≤ b) (o : b < 256) (e : n ≡ b - 128 + 128 * m) where
   front-high : n / 128 ≡ m
@@ -212,26 +212,26 @@ module _ (b m n : ℕ) (s : 128 ≤ b) (o : b < 256) (e : n ≡ b - 128 + 128 * 
   front_low : 128 + n % 128 ≡ b
   front_low = omega arith
 
-groupsIn-least : (left : ℕ) {y : List ℕ} {n : ℕ} → Grouped y n → length (groupsIn left n) ≤ length y
-groupsIn-least left (last {b = b} h) = rw (small-form left b h) (omega arith)
-groupsIn-least zero (more s o g e) = omega arith
-groupsIn-least (suc left) {n = n} (more {b = b} {m = m} s o g e) =
-    cases (ltb n 128) (λ t. rw t (omega arith)) (λ t. rw (t, front-high b m n s o e) (omega (arith, groupsIn-least left g)))
+groups_in-least : (left : ℕ) {y : List ℕ} {n : ℕ} → Grouped y n → length (groups_in left n) ≤ length y
+groups_in-least left (last {b = b} h) = rw (small-form left b h) (omega arith)
+groups_in-least zero (more s o g e) = omega arith
+groups_in-least (suc left) {n = n} (more {b = b} {m = m} s o g e) =
+    cases (ltb n 128) (λ t. rw t (omega arith)) (λ t. rw (t, front-high b m n s o e) (omega (arith, groups_in-least left g)))
 
-groupsIn-only : (left : ℕ) {y : List ℕ} {n : ℕ} → Grouped y n → length y ≤ length (groupsIn left n) → y ≡ groupsIn left n
-groupsIn-only left (last {b = b} h) l = rw (small-form left b h)
-groupsIn-only zero (more s o g e) l = absurd (omega (arith, grouped-some g))
-groupsIn-only (suc left) {n = n} (more {b = b} {m = m} s o g e) l =
+groups_in-only : (left : ℕ) {y : List ℕ} {n : ℕ} → Grouped y n → length y ≤ length (groups_in left n) → y ≡ groups_in left n
+groups_in-only left (last {b = b} h) l = rw (small-form left b h)
+groups_in-only zero (more s o g e) l = absurd (omega (arith, grouped-some g))
+groups_in-only (suc left) {n = n} (more {b = b} {m = m} s o g e) l =
     cases (ltb n 128)
     (λ t. absurd (omega (arith, grouped-some g, rw t at l)))
     (λ t. rw (t, front-high b m n s o e, front_low b m n s o e)
-    (ap (λ (z : List ℕ). b ∷ z) (groupsIn-only left g (omega (arith, rw (t, front-high b m n s o e) at l)))))
+    (ap (λ (z : List ℕ). b ∷ z) (groups_in-only left g (omega (arith, rw (t, front-high b m n s o e) at l)))))
 
 -- each number up to 2,097,151 has one shortest form
-pub groups-shortest : (n : ℕ) → n ≤ maxNumber → Shortest (groups n) n
+pub groups-shortest : (n : ℕ) → n ≤ max_number → Shortest (groups n) n
 unfolding groups
-groups-shortest n h = record { grouped = groupsIn-grouped 2 n (omega arith); least = λ y g. groupsIn-least 2 g }
+groups-shortest n h = record { grouped = groups_in-grouped 2 n (omega arith); least = λ y g. groups_in-least 2 g }
 
-pub shortest-groups : (x : List ℕ) (n : ℕ) → n ≤ maxNumber → Shortest x n → x ≡ groups n
+pub shortest-groups : (x : List ℕ) (n : ℕ) → n ≤ max_number → Shortest x n → x ≡ groups n
 unfolding groups
-shortest-groups x n h s = groupsIn-only 2 s.grouped (s.least (groupsIn 2 n) (groupsIn-grouped 2 n (omega arith)))
+shortest-groups x n h s = groups_in-only 2 s.grouped (s.least (groups_in 2 n) (groups_in-grouped 2 n (omega arith)))

@@ -1,7 +1,7 @@
 // The host's entry: a text is read as a policy and the policy is printed, over tables of its own. One number answers: the printed
 // length, or 65,536 plus the refusal. Its contract cites the definitions of `cel_policy`, for every text and every output.
 ghost use Rattle.std.specs.Prelude.{◌≡◌, length};
-ghost use Rattle.cel_policy.specs.Answers.{canonicalAnswer, canonicalOutput};
+ghost use Rattle.cel_policy.specs.Answers.{canonical_answer, canonical_output};
 
 use ast_mapping::SPAN_WORDS;
 use parser::NODE_WORDS;
@@ -10,8 +10,8 @@ pub const REFUSED: u32 = 65536;
 
 // Writes the canonical text to the front of `out`, or refuses and leaves `out` as it is.
 pub fn canonicalise(text: &[u8], out: &mut [u8]) -> u32
-    ensures answer { result ≡ canonicalAnswer text.now (length out.old) }
-    ensures output { out.new ≡ canonicalOutput text.now out.old }
+    ensures answer { result ≡ canonical_answer text.now (length out.old) }
+    ensures output { out.new ≡ canonical_output text.now out.old }
 {
     let mut nodes = [0u32; NODE_WORDS];
     let mut spans = [0u32; SPAN_WORDS];
@@ -30,8 +30,8 @@ pub fn canonicalise(text: &[u8], out: &mut [u8]) -> u32
 // The same for a host in C: a pointer and a length for each slice.
 #[unsafe(no_mangle)]
 pub extern "C" fn hilladok_canonicalise(text: &[u8], out: &mut [u8]) -> u32
-    ensures answer { result ≡ canonicalAnswer text.now (length out.old) }
-    ensures output { out.new ≡ canonicalOutput text.now out.old }
+    ensures answer { result ≡ canonical_answer text.now (length out.old) }
+    ensures output { out.new ≡ canonical_output text.now out.old }
 {
     canonicalise(text, out)
 }

@@ -13,8 +13,8 @@ pub record Inside (line : Line) (long : ℕ) : Type 0 where
   pub room : line.held ≤ long
 
 -- a buffer with its bytes from one place up to another at its front; as it is where it does not have them
-abbrev pub broughtFront : (buffer : List ℕ) (from to : ℕ) → List ℕ
-broughtFront buffer from to = cond (leb to (length buffer)) (take (to - from) (drop from buffer) ++ drop (to - from) buffer) buffer
+abbrev pub brought_front : (buffer : List ℕ) (from to : ℕ) → List ℕ
+brought_front buffer from to = cond (leb to (length buffer)) (take (to - from) (drop from buffer) ++ drop (to - from) buffer) buffer
 
 pub nothing-inside : (line : Line) (long : ℕ) → line ≡ nothing → Inside line long
 nothing-inside line long e = rw e (record { ordered = omega arith; inside = omega arith; room = omega arith })

@@ -1,6 +1,6 @@
 // The fields of a line, bytes in hex and decimal numbers, and where its parts begin.
 ghost use Rattle.std.specs.Prelude.{◌≡◌, ◌≤◌, length};
-ghost use Rattle.lines.specs.Fields.{hexValue, hexCount, hexLeft, readDecimal, AtMost, numberAfter, partFrom, Within};
+ghost use Rattle.lines.specs.Fields.{hex_value, hex_count, hex_left, read_decimal, AtMost, number_after, part_from, Within};
 
 // How many bytes a field gives, or the number that it is.
 #[derive(Drop)]
@@ -18,7 +18,7 @@ pub enum Field {
 
 // The value of a hexadecimal digit, 16 of any other byte.
 fn hex_value(b: u8) -> u8
-    ensures { result ≡ hexValue b }
+    ensures { result ≡ hex_value b }
 {
     if b < b'0' {
         return 16;
@@ -43,8 +43,8 @@ fn hex_value(b: u8) -> u8
 
 // Puts the bytes that a field gives in hex at the start of out, and says how many. Where a pair is bad, the bytes before it are put.
 pub fn unhex(field: &[u8], out: &mut [u8]) -> Count
-    ensures value { result ≡ hexCount field.now (length out.old) }
-    ensures out_after { out.new ≡ hexLeft field.now out.old }
+    ensures value { result ≡ hex_count field.now (length out.old) }
+    ensures out_after { out.new ≡ hex_left field.now out.old }
     ensures at_most { AtMost (length out.new) result }
 {
     let n = field.len() / 2;
@@ -72,7 +72,7 @@ pub fn unhex(field: &[u8], out: &mut [u8]) -> Count
 
 // The number that a field gives in decimal, where it is at most `most`.
 pub fn decimal(field: &[u8], most: u32) -> Count
-    ensures value { result ≡ readDecimal most field.now }
+    ensures value { result ≡ read_decimal most field.now }
     ensures at_most { AtMost most result }
 {
     if field.len() == 0 {
@@ -106,7 +106,7 @@ fn wide(b: u8) -> usize
 
 // The number of the field after the one that ends at `at`, where there is one.
 pub fn number_after(line: &[u8], at: usize, most: u32) -> Field
-    ensures value { result ≡ numberAfter most line.now at }
+    ensures value { result ≡ number_after most line.now at }
     ensures within { Within (length line.now) most result }
 {
     if line.len() <= at {
@@ -123,7 +123,7 @@ pub fn number_after(line: &[u8], at: usize, most: u32) -> Field
 
 // Where part `number` of a line begins, counted from 0, the parts being separated by a mark; the line's end where it has fewer parts.
 pub fn part_start(line: &[u8], number: u32, mark: u8) -> usize
-    ensures value { result ≡ partFrom mark number line.now 0 }
+    ensures value { result ≡ part_from mark number line.now 0 }
     ensures upper_bound { result ≤ length line.now }
 {
     let mut at = 0;

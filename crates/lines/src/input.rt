@@ -1,7 +1,7 @@
 // Lines of standard input. No contract can say what is read; these say that every line lies within its buffer.
 ghost use Rattle.std.specs.Prelude.{◌≤◌, ◌≡◌, length};
-ghost use Rattle.lines.specs.Input.{Inside, broughtFront};
-ghost use Rattle.lines.specs.Input.{nothing as Input·nothing};
+ghost use Rattle.lines.specs.Input.{Inside, brought_front};
+ghost use Rattle.lines.specs.Input.{nothing as no_line};
 
 use libc::STDIN_FILENO;
 
@@ -18,7 +18,7 @@ pub struct Line {
 
 // No line, and nothing held.
 pub fn none() -> Line
-    ensures { result ≡ Input·nothing }
+    ensures { result ≡ no_line }
 {
     Line {
         from: 0,
@@ -41,7 +41,7 @@ fn read_more(input: &mut [u8], held: usize) -> usize
 
 // Moves the bytes from `from` up to `to` to the front. All others stay as they are, and so do all where there are no such bytes.
 pub fn to_front(buffer: &mut [u8], from: usize, to: usize)
-    ensures { buffer.new ≡ broughtFront buffer.old from to }
+    ensures { buffer.new ≡ brought_front buffer.old from to }
 {
     if buffer.len() < to {
         return;

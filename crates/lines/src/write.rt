@@ -2,7 +2,7 @@
 // `pieces::put` does.
 ghost use Rattle.std.specs.Prelude.{[], ◌∷◌};
 ghost use Rattle.pieces.specs.Pieces.{Wrote};
-ghost use Rattle.lines.specs.Texts.{numeral, afterCommas, numerals, pair, pairs};
+ghost use Rattle.lines.specs.Texts.{numeral, after_commas, numerals, pair, pairs};
 
 // A number in decimal.
 pub fn put_number(out: &mut [u8], at: usize, n: u64) -> usize
@@ -32,7 +32,7 @@ fn put_word(out: &mut [u8], at: usize, w: u32) -> usize
 
 // Words in decimal, each after a comma.
 fn put_after_commas(out: &mut [u8], at: usize, words: &[u32]) -> usize
-    ensures { Wrote out.old out.new at result (afterCommas words.now) }
+    ensures { Wrote out.old out.new at result (after_commas words.now) }
 {
     let mut end = at;
     let mut i = 0;

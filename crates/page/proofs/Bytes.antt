@@ -9,25 +9,25 @@ use lib.Seq.{take-suc}
 use borrow.Author.Tests.{ne_eqb, le-leb, lt-leb}
 use Rattle.cel_text.specs.Byte.{Text, bytes}
 use Rattle.lines.specs.Texts.{pair}
-use Rattle.page.specs.Page.{shownByte}
+use Rattle.page.specs.Page.{shown_byte}
 
 -- a byte that is shown as no pair
 abbrev pub Unpaired : ℕ → Type 0
 Unpaired b = (((Unit {0} × (b ≡ 9 → ⊥)) × (b ≡ 10 → ⊥)) × (b ≡ 13 → ⊥)) × (b ≡ 92 → ⊥)
 
 module _ (b : ℕ) (u : Unpaired b) where
-  pub shown-plain : 32 ≤ b → b < 127 → shownByte b ≡ b ∷ []
-  unfolding shownByte
+  pub shown-plain : 32 ≤ b → b < 127 → shown_byte b ≡ b ∷ []
+  unfolding shown_byte
   shown-plain l h =
       rw (ne_eqb b 9 u.0.0.0.1, ne_eqb b 10 u.0.0.1, ne_eqb b 13 u.0.1, ne_eqb b 92 u.1, le-leb 32 b l, le-leb b 126 (omega arith))
 
-  pub shown-low : b < 32 → shownByte b ≡ bytes "\\x" ++ pair b
-  unfolding shownByte
+  pub shown-low : b < 32 → shown_byte b ≡ bytes "\\x" ++ pair b
+  unfolding shown_byte
   shown-low h =
       rw (ne_eqb b 9 u.0.0.0.1, ne_eqb b 10 u.0.0.1, ne_eqb b 13 u.0.1, ne_eqb b 92 u.1, lt-leb 32 b h)
 
-  pub shown-high : 127 ≤ b → shownByte b ≡ bytes "\\x" ++ pair b
-  unfolding shownByte
+  pub shown-high : 127 ≤ b → shown_byte b ≡ bytes "\\x" ++ pair b
+  unfolding shown_byte
   shown-high h =
       rw (ne_eqb b 9 u.0.0.0.1, ne_eqb b 10 u.0.0.1, ne_eqb b 13 u.0.1, ne_eqb b 92 u.1, le-leb 32 b (omega arith), lt-leb b 126 (omega arith))
 

@@ -9,8 +9,8 @@ abbrev pub plain : ℕ → Bool
 plain b = leb 32 b && leb b 126
 
 -- a byte as it is shown: tab, line end, return and backslash as pairs, another that is not printable by its value
-unfoldable pub shownByte : ℕ → Text
-shownByte b =
+unfoldable pub shown_byte : ℕ → Text
+shown_byte b =
     cond (eqb b 9) (bytes "\\t")
     (cond (eqb b 10) (bytes "\\n")
     (cond (eqb b 13) (bytes "\\r")
@@ -19,22 +19,22 @@ shownByte b =
     (bytes "\\x" ⧺ pair b)))))
 
 -- a byte of a page's own words: a line end is one, and `#` stands for the number n
-unfoldable pub saidByte : (n b : ℕ) → Text
-saidByte n b = cond (eqb b 10) (10 ∷ []) (cond (eqb b 35) (numeral n) (shownByte b))
+unfoldable pub said_byte : (n b : ℕ) → Text
+said_byte n b = cond (eqb b 10) (10 ∷ []) (cond (eqb b 35) (numeral n) (shown_byte b))
 
 -- a text as it is shown
 unfoldable pub shown : Text → Text
 unfolding flat_map
-shown x = flat_map shownByte x
+shown x = flat_map shown_byte x
 
 -- words, and the number that they speak of
 unfoldable pub said : Text → (n : ℕ) → Text
 unfolding flat_map
-said words n = flat_map (saidByte n) words
+said words n = flat_map (said_byte n) words
 
 -- line ends and printable ASCII bytes alone
-unfoldable pub legibleByte : ℕ → Bool
-legibleByte b = eqb b 10 || plain b
+unfoldable pub legible_byte : ℕ → Bool
+legible_byte b = eqb b 10 || plain b
 
 abbrev pub Legible : Text → Type 0
-Legible x = Run legibleByte x
+Legible x = Run legible_byte x

@@ -4,7 +4,7 @@ ghost use Rattle.std.specs.Prelude.{◌≡◌, [], ◌∷◌, ◌++◌, length, 
 ghost use Rattle.cel_text.specs.Byte.{bytes};
 ghost use Rattle.lines.specs.Texts.{pair};
 ghost use Rattle.pieces.specs.Pieces.{Wrote};
-ghost use Rattle.page.specs.Page.{shownByte, saidByte, shown, said};
+ghost use Rattle.page.specs.Page.{shown_byte, said_byte, shown, said};
 
 // A backslash, `x` and the byte in hex.
 fn put_hex(out: &mut [u8], at: usize, b: u8) -> usize
@@ -24,7 +24,7 @@ fn put_plain(out: &mut [u8], at: usize, b: u8) -> usize
 
 // A byte as it is shown.
 fn put_byte(out: &mut [u8], at: usize, b: u8) -> usize
-    ensures { Wrote out.old out.new at result (shownByte b) }
+    ensures { Wrote out.old out.new at result (shown_byte b) }
 {
     match b {
         b'\t' => pieces::put(out, at, b"\\t"),
@@ -38,7 +38,7 @@ fn put_byte(out: &mut [u8], at: usize, b: u8) -> usize
 
 // How many columns a byte takes.
 pub fn columns(b: u8) -> usize
-    ensures { result ≡ length (shownByte b) }
+    ensures { result ≡ length (shown_byte b) }
 {
     match b {
         b'\t' => 2,
@@ -77,7 +77,7 @@ pub fn put_spaces(out: &mut [u8], at: usize, n: usize) -> usize
 
 // A byte of a page's own words.
 fn say_byte(out: &mut [u8], at: usize, b: u8, n: usize) -> usize
-    ensures { Wrote out.old out.new at result (saidByte n b) }
+    ensures { Wrote out.old out.new at result (said_byte n b) }
 {
     match b {
         b'\n' => pieces::put(out, at, b"\n"),

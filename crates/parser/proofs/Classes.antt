@@ -2,9 +2,9 @@
 -- nothing.
 use Rattle.std.proofs.Common.{◌≡◌, ℕ, zero, suc, ◌<◌, Bool, true, false, cond, not, ◌&&◌, ◌||◌, eqb, leb, sym, refl, subst, ⊎_elim, le_of_suc-le-suc, not-suc-le-zero, eq-or-lt_of_le, arith, ne_eqb}
 use lib.Bits.{bit_or}
-use Rattle.cel_text.specs.Byte.{blank, alphanumeric, identByte, stringByte}
+use Rattle.cel_text.specs.Byte.{blank, alphanumeric, ident_byte, string_byte}
 use Rattle.cel_text.specs.Laws.Class.{both_true}
-use Rattle.parser.specs.Set.{stringSet}
+use Rattle.parser.specs.Set.{string_set}
 use Rattle.parser.specs.Run.{letter, digit}
 
 pub space-blank : blank 32 ≡ true
@@ -31,12 +31,12 @@ module _ (b : ℕ) where
   unfolding alphanumeric
   letters-digits = shared (leb 48 b && leb b 57) (leb 65 b && leb b 90) (leb 97 b && leb b 122)
 
-  pub ident-tests : identByte b ≡ letter b || digit b || eqb b 95
-  unfolding identByte
+  pub ident-tests : ident_byte b ≡ letter b || digit b || eqb b 95
+  unfolding ident_byte
   ident-tests = rw letters-digits
 
-  pub string-tests : stringSet b ≡ letter b || digit b || eqb b 45
-  unfolding stringByte
+  pub string-tests : string_set b ≡ letter b || digit b || eqb b 45
+  unfolding string_byte
   string-tests = rw letters-digits
 
 -- whether all numbers below n pass a test

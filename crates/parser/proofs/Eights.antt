@@ -7,9 +7,9 @@ use Rattle.cel_text.specs.Byte.{Text}
 use Rattle.parser.specs.Run.{number_at, BytesAt, Spaces}
 
 -- n spaces as one number
-abbrev spacesAs : ℕ → ℕ
-spacesAs zero = 0
-spacesAs (suc n) = 32 + 256 * spacesAs n
+abbrev spaces_as : ℕ → ℕ
+spaces_as zero = 0
+spaces_as (suc n) = 32 + 256 * spaces_as n
 
 -- a number is a multiple of 2 to the number of zeros at its end
 zeros-divide : (d n : ℕ) → (q : ℕ) × (n ≡ 2 ^ count_trailing_zeros d n * q)
@@ -32,7 +32,7 @@ power-more m p =
 
 -- where the m lowest bytes of two numbers are the same, and one is made of spaces
 module _ (x : Text) (i : ℕ) where
-  lowest : (m n k p q : ℕ) → m ≤ n → BytesAt x i n k → number_at x i n k + 2 ^ (8 * m) * p ≡ spacesAs n + 2 ^ (8 * m) * q
+  lowest : (m n k p q : ℕ) → m ≤ n → BytesAt x i n k → number_at x i n k + 2 ^ (8 * m) * p ≡ spaces_as n + 2 ^ (8 * m) * q
       → (j : ℕ) → i + k ≤ j → j < i + k + m → get_or x j 0 ≡ 32
   lowest zero n k p q le b e j f t = absurd (omega (arith, f, t))
   lowest (suc m) zero k p q le b e j f t = absurd (omega (arith, le))
@@ -40,7 +40,7 @@ module _ (x : Text) (i : ℕ) where
       let P = power-more m p in
       let Q = power-more m q in
       let here : get_or x (i + k) 0 ≡ 32 = omega (arith, b.0, e, P, Q) in
-      let rest : number_at x i n (suc k) + 2 ^ (8 * m) * p ≡ spacesAs n + 2 ^ (8 * m) * q = omega (arith, b.0, e, P, Q) in
+      let rest : number_at x i n (suc k) + 2 ^ (8 * m) * p ≡ spaces_as n + 2 ^ (8 * m) * q = omega (arith, b.0, e, P, Q) in
       ⊎_elim (λ s. subst (λ (y : ℕ). get_or x y 0 ≡ 32) s here) (λ s. lowest m n (suc k) p q (omega (arith, le)) b.1 rest j (omega (arith, s)) (omega (arith, t))) (eq-or-lt_of_le f)
 
 -- a power of 2 is a power of 256 and what is left
@@ -50,21 +50,21 @@ power-part r t q h =
     ap (λ (k : ℕ). 2 ^ k * q) same ∙ ap (λ (k : ℕ). k * q) (pow-add 2 (8 * r) (t - 8 * r)) ∙ mul_assoc (2 ^ (8 * r)) (2 ^ (t - 8 * r)) q
 
 pub spaces-told :
-    (x : Text) (i n rest : ℕ) → i + 8 ≤ length x → BytesAt x i 8 0 → n ≡ number_at x i 8 0 → (rest + spacesAs 8) % 2 ^ 64 ≡ n
+    (x : Text) (i n rest : ℕ) → i + 8 ≤ length x → BytesAt x i 8 0 → n ≡ number_at x i 8 0 → (rest + spaces_as 8) % 2 ^ 64 ≡ n
     → Spaces x i (i + count_trailing_zeros 64 rest / 8) × (count_trailing_zeros 64 rest / 8 ≤ 8)
 spaces-told x i n rest h b e w = go (count_trailing_zeros 64 rest) (trailing_le 64 rest) (zeros-divide 64 rest)
   where
-    even : (a : ℕ) {c p q : ℕ} → 2 ^ 64 * a ≡ p → c ≡ q → rest ≡ c → rest + spacesAs 8 ≡ 2 ^ 64 * a + n → n + p ≡ spacesAs 8 + q
+    even : (a : ℕ) {c p q : ℕ} → 2 ^ 64 * a ≡ p → c ≡ q → rest ≡ c → rest + spaces_as 8 ≡ 2 ^ 64 * a + n → n + p ≡ spaces_as 8 + q
     even a P Q d m = omega arith
 
     go : (t : ℕ) → t ≤ 64 → (q : ℕ) × (rest ≡ 2 ^ t * q) → Spaces x i (i + t / 8) × (t / 8 ≤ 8)
     go t l (q, d) =
         let r : ℕ = t / 8 in
-        let o : ℕ = (rest + spacesAs 8) / 2 ^ 64 in
+        let o : ℕ = (rest + spaces_as 8) / 2 ^ 64 in
         let P = power-part r 64 o (omega (arith, l)) in
         let Q = power-part r t q (omega (arith, l)) in
-        let whole : rest + spacesAs 8 ≡ 2 ^ 64 * o + n = omega (arith, w) in
-        let low : number_at x i 8 0 + 2 ^ (8 * r) * (2 ^ (64 - 8 * r) * o) ≡ spacesAs 8 + 2 ^ (8 * r) * (2 ^ (t - 8 * r) * q) =
+        let whole : rest + spaces_as 8 ≡ 2 ^ 64 * o + n = omega (arith, w) in
+        let low : number_at x i 8 0 + 2 ^ (8 * r) * (2 ^ (64 - 8 * r) * o) ≡ spaces_as 8 + 2 ^ (8 * r) * (2 ^ (t - 8 * r) * q) =
         ap (λ (m : ℕ). m + 2 ^ (8 * r) * (2 ^ (64 - 8 * r) * o)) (sym e) ∙ even o P Q d whole in
         let most : r ≤ 8 = omega (arith, l) in
         ((omega arith, omega (arith, h, most), λ j f u. lowest x i r 8 0 (2 ^ (64 - 8 * r) * o) (2 ^ (t - 8 * r) * q) most b low j (omega (arith, f)) (omega (arith, u))), most)

@@ -4,7 +4,7 @@ use lib.Seq.{sets}
 use Rattle.cel_text.specs.Byte.{Text, blank}
 use Rattle.cel_text.specs.Tree.{Kind}
 use Rattle.cel_text.specs.Reading.{begun, fresh}
-use Rattle.cel_text.specs.Table.{Words, stringKind, rowWords}
+use Rattle.cel_text.specs.Table.{Words, string_kind, row_words}
 use Rattle.parser.specs.declared.Read.{Read}
 use Rattle.parser.specs.declared.Step.{Step}
 use Rattle.parser.specs.declared.Step.TheVariants.{Next, Refused}
@@ -20,11 +20,11 @@ use Rattle.parser.proofs.Lists.{whole-child, refused-child, Due-child, child-ref
 
 module _ {x : Text} {at kind from to o : ℕ} (h : Headed x at kind from to o) (n left : ℕ) where
   module _ {q : ℕ} (e : Entered kind o n left q) (kf kt u : ℕ) where
-    pub string-up : (w w' : Words) → kind ≡ stringKind → (s : Step) → StringRead x w w' q n kf kt u s → Valued x w w' at n left kf kt u s
+    pub string-up : (w w' : Words) → kind ≡ string_kind → (s : Step) → StringRead x w w' q n kf kt u s → Valued x w w' at n left kf kt u s
     string-up w w' k (Next r) v = whole_from (at-string h n left e k) (value-later h n left e) (v o left e.next)
     string-up w w' k (Refused r p) v = refused-from (at-string h n left e k) (v o left)
 
-    pub list_up : (w w₁ w₂ : Words) (left' : ℕ) → (kind ≡ stringKind → ⊥) → left ≡ suc left' → w₁ ≡ sets w (rowWords * n) (kind ∷ from ∷ to ∷ kf ∷ kt ∷ u ∷ [])
+    pub list_up : (w w₁ w₂ : Words) (left' : ℕ) → (kind ≡ string_kind → ⊥) → left ≡ suc left' → w₁ ≡ sets w (row_words * n) (kind ∷ from ∷ to ∷ kf ∷ kt ∷ u ∷ [])
         → (s : Step) → Listed x w₁ w₂ q n kind left' s → Valued x w w₂ at n left kf kt u s
     list_up w w₁ w₂ left' k hl hw (Next r) v = value-list h n left e k hl hw v
     list_up w w₁ w₂ left' k hl hw (Refused r p) v =

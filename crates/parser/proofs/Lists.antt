@@ -3,27 +3,27 @@ use Rattle.std.proofs.Common.{◌≡◌, ℕ, suc, ◌+◌, ◌*◌, ◌<◌, �
 use lib.Seq.{sets, length-sets}
 use borrow.Table.Steps.{cases}
 use Rattle.cel_text.specs.Byte.{Text, blank, colon, comma}
-use Rattle.cel_text.specs.Tree.{Kind, array, object, function, closer, Key, key, unkeyed, container, Trees, ∅, ◌▸◌∶◌, nodesAll, depthAll, count}
-use Rattle.cel_text.specs.Reading.{Stack, inside, Frame, value, entry, State, before, begun, after, Step, go, refuse, syntax, child, fresh, past, limits, maxNodes, withKey}
-use Rattle.cel_text.specs.Table.{Words, kindNumber, rowsAll, rowWords}
-use Rattle.cel_text.specs.Answer.{faultNumber}
+use Rattle.cel_text.specs.Tree.{Kind, array, object, function, closer, Key, key, unkeyed, container, Trees, ∅, ◌▸◌∶◌, nodes_all, depth_all, count}
+use Rattle.cel_text.specs.Reading.{Stack, inside, Frame, value, entry, State, before, begun, after, Step, go, refuse, syntax, child, fresh, past, limits, max_nodes, with_key}
+use Rattle.cel_text.specs.Table.{Words, kind_number, rows_all, row_words}
+use Rattle.cel_text.specs.Answer.{fault_number}
 use Rattle.cel_text.specs.Laws.Run.{whole-resumes}
-use Rattle.parser.specs.Set.{stringSet}
+use Rattle.parser.specs.Set.{string_set}
 use Rattle.parser.specs.declared.Read.{Read}
 use Rattle.parser.specs.declared.value.Key.{Key as Found}
 use Rattle.parser.specs.Run.{end_of, NamedAt}
 use Rattle.parser.specs.Kinds.{kind_of}
-use Rattle.parser.specs.Steps.{reads, goesOn, Around, RefusedBy, Sized, WholeValue, framed, Keyed, WholeChild, ChildRefused, WholeList}
+use Rattle.parser.specs.Steps.{reads, goes_on, Around, RefusedBy, Sized, WholeValue, framed, Keyed, WholeChild, ChildRefused, WholeList}
 use Rattle.parser.proofs.Runs.{end-within, byte-within}
 use Rattle.parser.proofs.Machine.{over-key, begun-closes, begun-child, after-closes, after-comma, after-other}
 use Rattle.parser.proofs.Rows.{rows_child}
 use Rattle.parser.proofs.Values.{Bounds, name-bounds, sized-from}
 
-entry-goes : (K : Stack) (f : Frame) (from to p b : ℕ) → b ≡ colon → past stringSet limits (entry K f) from to p b ≡ go (before (value (inside K (withKey f (key from to)))))
+entry-goes : (K : Stack) (f : Frame) (from to p b : ℕ) → b ≡ colon → past string_set limits (entry K f) from to p b ≡ go (before (value (inside K (with_key f (key from to)))))
 unfolding past
 entry-goes K f from to p b e = rw e
 
-entry-stops : (K : Stack) (f : Frame) (from to p b : ℕ) → (b ≡ colon → ⊥) → past stringSet limits (entry K f) from to p b ≡ refuse syntax
+entry-stops : (K : Stack) (f : Frame) (from to p b : ℕ) → (b ≡ colon → ⊥) → past string_set limits (entry K f) from to p b ≡ refuse syntax
 unfolding past
 entry-stops K f from to p b h = rw (ne_eqb b colon h)
 
@@ -40,35 +40,35 @@ module _ {x : Text} {p kf kt e : ℕ} (named : NamedAt x p kf kt e) (hp : p ≤ 
         keyfrom = sym hf;
         keyto = sym ht;
         due = λ K o from to ts. rw hd (over-key x named K (framed object o from to ts unkeyed)
-            ∙ ap (λ (s : Step). goesOn s x e) (entry-goes K (framed object o from to ts unkeyed) kf kt e (get_or x e 0) h));
+            ∙ ap (λ (s : Step). goes_on s x e) (entry-goes K (framed object o from to ts unkeyed) kf kt e (get_or x e 0) h));
         later = omega (arith, hd, b.later);
         within = omega (arith, hd);
-        fromIn = omega (arith, hf, b.fromIn);
-        toIn = omega (arith, ht, b.toIn);
+        from_in = omega (arith, hf, b.from_in);
+        to_in = omega (arith, ht, b.to_in);
       }
 
-  pub no-colon : (n left : ℕ) → (get_or x e 0 ≡ colon → ⊥) → ChildRefused object x p n left (faultNumber syntax) e
+  pub no-colon : (n left : ℕ) → (get_or x e 0 ≡ colon → ⊥) → ChildRefused object x p n left (fault_number syntax) e
   no-colon n left h =
       record {
         fault = syntax;
         number = refl;
         refuses = λ K o from to ts a. over-key x named K (framed object o from to ts unkeyed)
-            ∙ ap (λ (s : Step). goesOn s x e) (entry-stops K (framed object o from to ts unkeyed) kf kt e (get_or x e 0) h);
+            ∙ ap (λ (s : Step). goes_on s x e) (entry-stops K (framed object o from to ts unkeyed) kf kt e (get_or x e 0) h);
         within = (name-bounds x named hp).within;
       }
 
 -- a child that is no entry has none
-pub key-none : (x : Text) (p kind : ℕ) (k : Found) → p ≤ length x → (kind ≡ kindNumber object → ⊥) → k.from.0 ≡ 0 → k.to.0 ≡ 0 → k.due.0 ≡ p → Keyed x (kind_of kind) p k
+pub key-none : (x : Text) (p kind : ℕ) (k : Found) → p ≤ length x → (kind ≡ kind_number object → ⊥) → k.from.0 ≡ 0 → k.to.0 ≡ 0 → k.due.0 ≡ p → Keyed x (kind_of kind) p k
 key-none x p kind k hp h hf ht hd =
     record {
       label = unkeyed;
       keyfrom = sym hf;
       keyto = sym ht;
-      due = λ K o from to ts. rw hd (cases (eqb kind (kindNumber array)) (λ t. rw t) (λ t. rw (t, ne_eqb kind (kindNumber object) h)));
+      due = λ K o from to ts. rw hd (cases (eqb kind (kind_number array)) (λ t. rw t) (λ t. rw (t, ne_eqb kind (kind_number object) h)));
       later = omega (arith, hd);
       within = omega (arith, hd);
-      fromIn = omega (arith, hf);
-      toIn = omega (arith, ht);
+      from_in = omega (arith, hf);
+      to_in = omega (arith, ht);
     }
 
 -- the stack around a child, whatever the child's key
@@ -109,18 +109,18 @@ closer-some function z = omega (arith, z)
 pub record Sofar (st : Stack → Frame → State) (x : Text) (w w' : Words) (at n : ℕ) (c : Kind) (left p m i d : ℕ) : Type 0 where
   pub children : Trees
   pub reading : (K : Stack) (o from to : ℕ) → Around K n (suc left) → reads (begun K (fresh c o from to)) x at ≡ reads (st K (framed c o from to children unkeyed)) x p
-  pub counts : m ≡ suc n + nodesAll children
+  pub counts : m ≡ suc n + nodes_all children
   pub number : i ≡ count children
-  pub deep : d ≡ depthAll children
-  pub rows : w' ≡ sets w (rowWords * suc n) (rowsAll children (suc n) (suc n))
+  pub deep : d ≡ depth_all children
+  pub rows : w' ≡ sets w (row_words * suc n) (rows_all children (suc n) (suc n))
   pub later : at ≤ p
   pub within : p ≤ length x
-  pub room : m ≤ maxNodes
+  pub room : m ≤ max_nodes
   pub fewer : i + n < m
   pub shallow : d ≤ left
 
 pub sofar-length : {st : Stack → Frame → State} {x : Text} {w w' : Words} {at n : ℕ} {c : Kind} {left p m i d : ℕ} → Sofar st x w w' at n c left p m i d → length w' ≡ length w
-sofar-length {w = w} {n = n} s = ap length s.rows ∙ length-sets w (rowWords * suc n) (rowsAll s.children (suc n) (suc n))
+sofar-length {w = w} {n = n} s = ap length s.rows ∙ length-sets w (row_words * suc n) (rows_all s.children (suc n) (suc n))
 
 -- where a child is due, and where one has been read
 abbrev pub Due-child : (x : Text) (w w' : Words) (at n : ℕ) (c : Kind) (left p m i d : ℕ) → Type 0
@@ -129,7 +129,7 @@ Due-child x w w' at n c left p m i d = Sofar (λ K f. before (child c K f)) x w 
 abbrev pub Read-child : (x : Text) (w w' : Words) (at n : ℕ) (c : Kind) (left p m i d : ℕ) → Type 0
 Read-child x w w' at n c left p m i d = Sofar (λ K f. after K f) x w w' at n c left p m i d
 
-module _ {x : Text} {at p n left : ℕ} {c : Kind} (e : p ≡ end_of blank x at) (hi : at ≤ length x) (few : n + 1 ≤ maxNodes) where
+module _ {x : Text} {at p n left : ℕ} {c : Kind} (e : p ≡ end_of blank x at) (hi : at ≤ length x) (few : n + 1 ≤ max_nodes) where
   pub first-child : {w : Words} → (get_or x p 0 ≡ closer c → ⊥) → Due-child x w w at n c left p (n + 1) 0 0
   first-child h =
       record {
@@ -148,12 +148,12 @@ module _ {x : Text} {at p n left : ℕ} {c : Kind} (e : p ≡ end_of blank x at)
 
   -- a container without children
   pub empty-list : {w w' : Words} (r : Read) → r.end.0 ≡ suc p → r.next.0 ≡ suc n → r.depth ≡ 1
-      → get_or x p 0 ≡ closer c → w' ≡ sets w (rowWords * n + 6) (0 ∷ r.next.0 ∷ []) → WholeList x w w' at n c left r
+      → get_or x p 0 ≡ closer c → w' ≡ sets w (row_words * n + 6) (0 ∷ r.next.0 ∷ []) → WholeList x w w' at n c left r
   empty-list r er en ed h hw =
       let inside-text : p < length x = byte-within x p (λ z. closer-some c (sym h ∙ z)) in
       record {
         children = ∅;
-        reading = λ K o from to a. rw er (begun-closes K (fresh c o from to) x at p e h ∙ whole-resumes stringSet limits K (container c o from to (suc p) ∅) p (drop (suc p) x));
+        reading = λ K o from to a. rw er (begun-closes K (fresh c o from to) x at p e h ∙ whole-resumes string_set limits K (container c o from to (suc p) ∅) p (drop (suc p) x));
         rows = hw;
         sized = λ o from to q. record {
           counts = omega (arith, en);
@@ -167,7 +167,7 @@ module _ {x : Text} {at p n left : ℕ} {c : Kind} (e : p ≡ end_of blank x at)
       }
 
 -- the stack around the child that is due
-around-child : {K : Stack} {n left m o from to : ℕ} {c : Kind} {ts : Trees} {k : Key} → Around K n (suc left) → m ≡ suc n + nodesAll ts → Around (inside K (framed c o from to ts k)) m left
+around-child : {K : Stack} {n left m o from to : ℕ} {c : Kind} {ts : Trees} {k : Key} → Around K n (suc left) → m ≡ suc n + nodes_all ts → Around (inside K (framed c o from to ts k)) m left
 around-child a e = record { below = omega (arith, a.below); sofar = omega (arith, a.sofar) }
 
 module _ {x : Text} {w w' : Words} {at n : ℕ} {c : Kind} {left p m i d : ℕ} (s : Due-child x w w' at n c left p m i d) where
@@ -220,13 +220,13 @@ module _ {x : Text} {w w' : Words} {at n : ℕ} {c : Kind} {left p m i d : ℕ} 
       }
 
   pub list-closed : {w'' : Words} (r : Read) → r.end.0 ≡ suc q → r.next.0 ≡ m → r.depth ≡ d + 1
-      → get_or x q 0 ≡ closer c → w'' ≡ sets w' (rowWords * n + 6) (i ∷ r.next.0 ∷ []) → WholeList x w w'' at n c left r
+      → get_or x q 0 ≡ closer c → w'' ≡ sets w' (row_words * n + 6) (i ∷ r.next.0 ∷ []) → WholeList x w w'' at n c left r
   list-closed r er en ed h hw =
       let inside-text : q < length x = byte-within x q (λ z. closer-some c (sym h ∙ z)) in
       record {
         children = s.children;
         reading = λ K o from to a. rw er (s.reading K o from to a ∙ after-closes K (framed c o from to s.children unkeyed) x p q e h
-            ∙ whole-resumes stringSet limits K (container c o from to (suc q) s.children) q (drop (suc q) x));
+            ∙ whole-resumes string_set limits K (container c o from to (suc q) s.children) q (drop (suc q) x));
         rows = hw ∙ rw (s.rows, s.number);
         sized = λ o from to q'. record {
           counts = omega (arith, en, s.counts);
@@ -239,6 +239,6 @@ module _ {x : Text} {w w' : Words} {at n : ℕ} {c : Kind} {left p m i d : ℕ} 
         };
       }
 
-  pub neither-refused : (get_or x q 0 ≡ closer c → ⊥) → (get_or x q 0 ≡ comma → ⊥) → (o from to : ℕ) → RefusedBy (λ K. begun K (fresh c o from to)) x at n (suc left) (faultNumber syntax) q
+  pub neither-refused : (get_or x q 0 ≡ closer c → ⊥) → (get_or x q 0 ≡ comma → ⊥) → (o from to : ℕ) → RefusedBy (λ K. begun K (fresh c o from to)) x at n (suc left) (fault_number syntax) q
   neither-refused h k o from to =
       record { fault = syntax; number = refl; refuses = λ K a. s.reading K o from to a ∙ after-other K (framed c o from to s.children unkeyed) x p q e h k; within = stop-in }

@@ -1,25 +1,25 @@
 -- What the machine of `cel_text` does over what the steps of reading find: a byte, a run, a name, an opener, a key. Assumes nothing.
 use Rattle.std.proofs.Common.{◌≡◌, ℕ, zero, suc, ◌+◌, Bool, true, false, cond, eqb, [], ◌∷◌, get_or, drop, sym, refl, ap, ◌∙◌, add-zero, arith, drop-drop, eq-eqb, ne_eqb, eqb-true}
 use borrow.Table.Steps.{cases}
-use Rattle.cel_text.specs.Byte.{Text, blank, identByte, stringByte, alphanumeric, lead, comma, quote}
+use Rattle.cel_text.specs.Byte.{Text, blank, ident_byte, string_byte, alphanumeric, lead, comma, quote}
 use Rattle.cel_text.specs.Tree.{Kind, array, object, function, opener, closer, string}
 use Rattle.cel_text.specs.Reading.{Stack, Frame, Due, value, entry, State, before, naming, named, quoted, dropping, begun, after, Step, go, refuse, syntax, refused, child, whole, closed, past, bare}
 use Rattle.cel_text.specs.Reading.{start, unquote, step, follow, run, limits}
-use Rattle.cel_text.specs.Table.{kindNumber}
+use Rattle.cel_text.specs.Table.{kind_number}
 use Rattle.cel_text.specs.Laws.Class.{closer-comma, closer-closer}
-use Rattle.parser.specs.Set.{stringSet}
+use Rattle.parser.specs.Set.{string_set}
 use Rattle.parser.specs.Run.{end_of, NamedAt}
-use Rattle.parser.specs.Kinds.{openerKind, opens}
-use Rattle.parser.specs.Steps.{reads, goesOn}
+use Rattle.parser.specs.Kinds.{opener_kind, opens}
+use Rattle.parser.specs.Steps.{reads, goes_on}
 use Rattle.parser.proofs.Runs.{end-stop, end_more, end-other, class-within}
 
 -- what a byte does in a state
 abbrev pub does : State → (p b : ℕ) → Step
-does st p b = step stringSet limits st p b
+does st p b = step string_set limits st p b
 
 -- the byte 0 is refused in every state, as the end of the text is
-start-zero : (w : Due) (p : ℕ) → start stringSet limits w p 0 ≡ refuse syntax
-unfolding start bare past blank identByte alphanumeric
+start-zero : (w : Due) (p : ℕ) → start string_set limits w p 0 ≡ refuse syntax
+unfolding start bare past blank ident_byte alphanumeric
 start-zero (value K) p = refl
 start-zero (entry K f) p = refl
 
@@ -28,17 +28,17 @@ closer-zero array = refl
 closer-zero object = refl
 closer-zero function = refl
 
-past-zero : (w : Due) (from to p : ℕ) → past stringSet limits w from to p 0 ≡ refuse syntax
+past-zero : (w : Due) (from to p : ℕ) → past string_set limits w from to p 0 ≡ refuse syntax
 unfolding past
 past-zero (value K) from to p = refl
 past-zero (entry K f) from to p = refl
 
-string-zero : stringSet 0 ≡ false
-unfolding stringByte alphanumeric
+string-zero : string_set 0 ≡ false
+unfolding string_byte alphanumeric
 string-zero = refl
 
 does-zero : (st : State) (p : ℕ) → does st p 0 ≡ refuse syntax
-unfolding step unquote blank identByte alphanumeric
+unfolding step unquote blank ident_byte alphanumeric
 does-zero (before w) p = start-zero w p
 does-zero (naming w from) p = past-zero w from p p
 does-zero (named w from to) p = past-zero w from to p
@@ -48,18 +48,18 @@ does-zero (begun K f) p = rw (closer-zero f.kind) (start-zero (child f.kind K f)
 does-zero (after K f) p = rw (closer-zero f.kind)
 
 -- the machine looks at the byte at its place
-pub look : (st : State) (x : Text) (p : ℕ) → reads st x p ≡ goesOn (does st p (get_or x p 0)) x p
+pub look : (st : State) (x : Text) (p : ℕ) → reads st x p ≡ goes_on (does st p (get_or x p 0)) x p
 look st x p = look_at x p p
   where
-    look_at : (x : Text) (i p : ℕ) → run stringSet limits st p (drop i x) ≡ follow (does st p (get_or x i 0)) p (λ st'. run stringSet limits st' (suc p) (drop (suc i) x))
+    look_at : (x : Text) (i p : ℕ) → run string_set limits st p (drop i x) ≡ follow (does st p (get_or x i 0)) p (λ st'. run string_set limits st' (suc p) (drop (suc i) x))
     look_at [] zero p = rw (does-zero st p)
     look_at [] (suc i) p = rw (does-zero st p)
     look_at (b ∷ bs) zero p = refl
     look_at (b ∷ bs) (suc i) p = look_at bs i p
 
 -- what a byte does where its step is known
-pub sees : (st : State) (x : Text) (p : ℕ) {s : Step} → does st p (get_or x p 0) ≡ s → reads st x p ≡ goesOn s x p
-sees st x p e = look st x p ∙ ap (λ (s : Step). goesOn s x p) e
+pub sees : (st : State) (x : Text) (p : ℕ) {s : Step} → does st p (get_or x p 0) ≡ s → reads st x p ≡ goes_on s x p
+sees st x p e = look st x p ∙ ap (λ (s : Step). goes_on s x p) e
 
 -- two states in which the byte at this place does the same
 same_here : (st st' : State) (x : Text) (p : ℕ) → does st p (get_or x p 0) ≡ does st' p (get_or x p 0) → reads st x p ≡ reads st' x p
@@ -67,13 +67,13 @@ same_here st st' x p e = sees st x p e ∙ sym (look st' x p)
 
 -- a state that a class of bytes leaves as it is reads a run of them
 pub over : (f : ℕ → Bool) (st : State) → ((p b : ℕ) → f b ≡ true → does st p b ≡ go st) → (x : Text) (p : ℕ) → reads st x p ≡ reads st x (end_of f x p)
-over f st h x p = over-lead (drop p x) p ∙ ap (run stringSet limits st (end_of f x p)) (drop-drop (lead f (drop p x)) p x)
+over f st h x p = over-lead (drop p x) p ∙ ap (run string_set limits st (end_of f x p)) (drop-drop (lead f (drop p x)) p x)
   where
-    over-lead : (y : Text) (p : ℕ) → run stringSet limits st p y ≡ run stringSet limits st (p + lead f y) (drop (lead f y) y)
+    over-lead : (y : Text) (p : ℕ) → run string_set limits st p y ≡ run string_set limits st (p + lead f y) (drop (lead f y) y)
     over-lead [] p = rw add-zero
     over-lead (b ∷ bs) p =
         cases (f b)
-        (λ t. rw (h p b t, t) (over-lead bs (suc p) ∙ ap (λ (q : ℕ). run stringSet limits st q (drop (lead f bs) bs)) (omega arith)))
+        (λ t. rw (h p b t, t) (over-lead bs (suc p) ∙ ap (λ (q : ℕ). run string_set limits st q (drop (lead f bs) bs)) (omega arith)))
         (λ t. rw (t, add-zero))
 
 over-before : (w : Due) (x : Text) (p : ℕ) → reads (before w) x p ≡ reads (before w) x (end_of blank x p)
@@ -83,43 +83,43 @@ blank-zero : blank 0 ≡ false
 unfolding blank
 blank-zero = refl
 
-ident-zero : identByte 0 ≡ false
-unfolding identByte alphanumeric
+ident-zero : ident_byte 0 ≡ false
+unfolding ident_byte alphanumeric
 ident-zero = refl
 
 -- the byte after a name, which may be empty
-abbrev pub pastName : Due → (from to p b : ℕ) → Step
-pastName w from to p b = cond (eqb from to) (bare stringSet limits w p b) (past stringSet limits w from to p b)
+abbrev pub past_name : Due → (from to p b : ℕ) → Step
+past_name w from to p b = cond (eqb from to) (bare string_set limits w p b) (past string_set limits w from to p b)
 
 -- what a byte does, by its class
-before-naming : (w : Due) (p b : ℕ) → blank b ≡ false → identByte b ≡ true → does (before w) p b ≡ go (naming w p)
+before-naming : (w : Due) (p b : ℕ) → blank b ≡ false → ident_byte b ≡ true → does (before w) p b ≡ go (naming w p)
 unfolding step start
 before-naming w p b nb t = rw (nb, t)
 
-before-bare : (w : Due) (p b : ℕ) → blank b ≡ false → identByte b ≡ false → does (before w) p b ≡ bare stringSet limits w p b
+before-bare : (w : Due) (p b : ℕ) → blank b ≡ false → ident_byte b ≡ false → does (before w) p b ≡ bare string_set limits w p b
 unfolding step start
 before-bare w p b nb t = rw (nb, t)
 
-naming-past : (w : Due) (from p b : ℕ) → identByte b ≡ false → does (naming w from) p b ≡ does (named w from p) p b
+naming-past : (w : Due) (from p b : ℕ) → ident_byte b ≡ false → does (naming w from) p b ≡ does (named w from p) p b
 unfolding step
 naming-past w from p b ni = rw ni
 
-named_past : (w : Due) (from to p b : ℕ) → blank b ≡ false → does (named w from to) p b ≡ past stringSet limits w from to p b
+named_past : (w : Due) (from to p b : ℕ) → blank b ≡ false → does (named w from to) p b ≡ past string_set limits w from to p b
 unfolding step
 named_past w from to p b nb = rw nb
 
 -- the name that a value's row shows: none for an array
 abbrev pub named-from : (kind place : ℕ) → ℕ
-named-from kind p = cond (eqb kind (kindNumber array)) 0 p
+named-from kind p = cond (eqb kind (kind_number array)) 0 p
 
 -- the byte that opens a value, after an identifier and after none
-past-opens : (K : Stack) (from to p b : ℕ) → past stringSet limits (value K) from to p b ≡ opens (openerKind false b) K (named-from (openerKind false b) from) (named-from (openerKind false b) to) p
+past-opens : (K : Stack) (from to p b : ℕ) → past string_set limits (value K) from to p b ≡ opens (opener_kind false b) K (named-from (opener_kind false b) from) (named-from (opener_kind false b) to) p
 unfolding past
 past-opens K from to p b =
     cases (eqb b (opener object)) (λ t. rw t) (λ t₁. cases (eqb b (opener function)) (λ t. rw (t₁, t))
     (λ t₂. cases (eqb b (opener array)) (λ t. rw (t₁, t₂, t)) (λ t₃. cases (eqb b quote) (λ t. rw (t₁, t₂, t₃, t)) (λ t. rw (t₁, t₂, t₃, t)))))
 
-bare-opens : (K : Stack) (p b : ℕ) → bare stringSet limits (value K) p b ≡ opens (openerKind true b) K (named-from (openerKind true b) p) (named-from (openerKind true b) p) p
+bare-opens : (K : Stack) (p b : ℕ) → bare string_set limits (value K) p b ≡ opens (opener_kind true b) K (named-from (opener_kind true b) p) (named-from (opener_kind true b) p) p
 unfolding bare past
 bare-opens K p b =
     cases (eqb b (opener object)) (λ t. rw (eqb-true b (opener object) t))
@@ -130,73 +130,73 @@ module _ (x : Text) {p from to end : ℕ} (n : NamedAt x p from to end) where
   no-blank : blank (get_or x from 0) ≡ false
   no-blank = rw n.begins (end-other blank x blank-zero p)
 
-  no-ident : identByte (get_or x to 0) ≡ false
-  no-ident = rw n.stops (end-other identByte x ident-zero from)
+  no-ident : ident_byte (get_or x to 0) ≡ false
+  no-ident = rw n.stops (end-other ident_byte x ident-zero from)
 
   -- an empty name stands where its end is
   empty-ends : from ≡ to → end ≡ from
   empty-ends e = n.ends ∙ rw (sym e) (end-stop blank x from no-blank)
 
-  over-name : (w : Due) → reads (before w) x p ≡ goesOn (pastName w from to end (get_or x end 0)) x end
-  over-name w = first ∙ cases (identByte (get_or x from 0)) long (λ t. short (n.stops ∙ end-stop identByte x from t) t)
+  over-name : (w : Due) → reads (before w) x p ≡ goes_on (past_name w from to end (get_or x end 0)) x end
+  over-name w = first ∙ cases (ident_byte (get_or x from 0)) long (λ t. short (n.stops ∙ end-stop ident_byte x from t) t)
     where
       first : reads (before w) x p ≡ reads (before w) x from
       first = rw n.begins (over-before w x p)
 
-      short : to ≡ from → identByte (get_or x from 0) ≡ false → reads (before w) x from ≡ goesOn (pastName w from to end (get_or x end 0)) x end
+      short : to ≡ from → ident_byte (get_or x from 0) ≡ false → reads (before w) x from ≡ goes_on (past_name w from to end (get_or x end 0)) x end
       short e t =
           let here : end ≡ from = empty-ends (sym e) in
-          let begin : does (before w) from (get_or x from 0) ≡ bare stringSet limits w from (get_or x from 0) = before-bare w from (get_or x from 0) no-blank t in
+          let begin : does (before w) from (get_or x from 0) ≡ bare string_set limits w from (get_or x from 0) = before-bare w from (get_or x from 0) no-blank t in
           rw (e, here, eq-eqb from from refl) (sees (before w) x from begin)
 
-      long : identByte (get_or x from 0) ≡ true → reads (before w) x from ≡ goesOn (pastName w from to end (get_or x end 0)) x end
+      long : ident_byte (get_or x from 0) ≡ true → reads (before w) x from ≡ goes_on (past_name w from to end (get_or x end 0)) x end
       long t =
-          let stops : to ≡ end_of identByte x (suc from) = n.stops ∙ end_more identByte x from (class-within identByte ident-zero x from t) t in
+          let stops : to ≡ end_of ident_byte x (suc from) = n.stops ∙ end_more ident_byte x from (class-within ident_byte ident-zero x from t) t in
           let after : eqb from to ≡ false = ne_eqb from to (λ e. omega arith) in
           let other : blank (get_or x end 0) ≡ false = rw n.ends (end-other blank x blank-zero to) in
           rw after
           (sees (before w) x from (before-naming w from (get_or x from 0) no-blank t)
-          ∙ over identByte (naming w from) (λ p b t. unfold step in rw t) x (suc from)
+          ∙ over ident_byte (naming w from) (λ p b t. unfold step in rw t) x (suc from)
           ∙ ap (reads (naming w from) x) (sym stops)
           ∙ same_here (naming w from) (named w from to) x to (naming-past w from to (get_or x to 0) no-ident)
           ∙ over blank (named w from to) (λ p b t. unfold step in rw t) x to
           ∙ ap (reads (named w from to) x) (sym n.ends)
           ∙ sees (named w from to) x end (named_past w from to end (get_or x end 0) other))
 
-  past-entry : (K : Stack) (f : Frame) → pastName (entry K f) from to end (get_or x end 0) ≡ past stringSet limits (entry K f) from to end (get_or x end 0)
+  past-entry : (K : Stack) (f : Frame) → past_name (entry K f) from to end (get_or x end 0) ≡ past string_set limits (entry K f) from to end (get_or x end 0)
   past-entry K f = cases (eqb from to) same (λ t. rw t)
     where
-      same : eqb from to ≡ true → pastName (entry K f) from to end (get_or x end 0) ≡ past stringSet limits (entry K f) from to end (get_or x end 0)
+      same : eqb from to ≡ true → past_name (entry K f) from to end (get_or x end 0) ≡ past string_set limits (entry K f) from to end (get_or x end 0)
       same t =
           let e : to ≡ from = sym (eqb-true from to t) in
           let here : end ≡ from = empty-ends (sym e) in
           rw (t, e, here) (unfold bare in refl)
 
   -- the colon of an entry
-  pub over-key : (K : Stack) (f : Frame) → reads (before (entry K f)) x p ≡ goesOn (past stringSet limits (entry K f) from to end (get_or x end 0)) x end
-  over-key K f = over-name (entry K f) ∙ ap (λ (s : Step). goesOn s x end) (past-entry K f)
+  pub over-key : (K : Stack) (f : Frame) → reads (before (entry K f)) x p ≡ goes_on (past string_set limits (entry K f) from to end (get_or x end 0)) x end
+  over-key K f = over-name (entry K f) ∙ ap (λ (s : Step). goes_on s x end) (past-entry K f)
 
-  past_value : (K : Stack) → pastName (value K) from to end (get_or x end 0)
-      ≡ opens (openerKind (eqb from to) (get_or x end 0)) K (named-from (openerKind (eqb from to) (get_or x end 0)) from) (named-from (openerKind (eqb from to) (get_or x end 0)) to) end
+  past_value : (K : Stack) → past_name (value K) from to end (get_or x end 0)
+      ≡ opens (opener_kind (eqb from to) (get_or x end 0)) K (named-from (opener_kind (eqb from to) (get_or x end 0)) from) (named-from (opener_kind (eqb from to) (get_or x end 0)) to) end
   past_value K = cases (eqb from to) same (λ t. rw t (past-opens K from to end (get_or x end 0)))
     where
-      same : eqb from to ≡ true → pastName (value K) from to end (get_or x end 0)
-          ≡ opens (openerKind (eqb from to) (get_or x end 0)) K (named-from (openerKind (eqb from to) (get_or x end 0)) from) (named-from (openerKind (eqb from to) (get_or x end 0)) to) end
+      same : eqb from to ≡ true → past_name (value K) from to end (get_or x end 0)
+          ≡ opens (opener_kind (eqb from to) (get_or x end 0)) K (named-from (opener_kind (eqb from to) (get_or x end 0)) from) (named-from (opener_kind (eqb from to) (get_or x end 0)) to) end
       same t =
           let e : to ≡ from = sym (eqb-true from to t) in
           let here : end ≡ from = empty-ends (sym e) in
           rw (t, e, here) (bare-opens K from (get_or x from 0))
 
   -- the opener of a value
-  pub over-opener : (K : Stack) (kind : ℕ) → kind ≡ openerKind (eqb from to) (get_or x end 0)
-      → reads (before (value K)) x p ≡ goesOn (opens kind K (named-from kind from) (named-from kind to) end) x end
-  over-opener K kind e = rw e (over-name (value K) ∙ ap (λ (s : Step). goesOn s x end) (past_value K))
+  pub over-opener : (K : Stack) (kind : ℕ) → kind ≡ opener_kind (eqb from to) (get_or x end 0)
+      → reads (before (value K)) x p ≡ goes_on (opens kind K (named-from kind from) (named-from kind to) end) x end
+  over-opener K kind e = rw e (over-name (value K) ∙ ap (λ (s : Step). goes_on s x end) (past_value K))
 
 -- the byte b at place p, which is neither content nor blank, in a string whose content ends at `to`
 abbrev pub closing : Stack → (o to p b : ℕ) → Step
 closing K o to p b = cond (eqb b quote) (whole K (string o to (suc p))) (refuse syntax)
 
-quoted-past : (K : Stack) (o p b : ℕ) → stringSet b ≡ false → does (quoted K o) p b ≡ does (dropping K o p) p b
+quoted-past : (K : Stack) (o p b : ℕ) → string_set b ≡ false → does (quoted K o) p b ≡ does (dropping K o p) p b
 unfolding step
 quoted-past K o p b ns = rw ns
 
@@ -205,12 +205,12 @@ unfolding step unquote
 dropping-closing K o to p b nb = rw nb
 
 -- a string's content, the blanks after it and the byte at their end
-pub over-string : (K : Stack) (o : ℕ) (x : Text) (at to end : ℕ) → to ≡ end_of stringSet x at → end ≡ end_of blank x to
-    → reads (quoted K o) x at ≡ goesOn (closing K o to end (get_or x end 0)) x end
+pub over-string : (K : Stack) (o : ℕ) (x : Text) (at to end : ℕ) → to ≡ end_of string_set x at → end ≡ end_of blank x to
+    → reads (quoted K o) x at ≡ goes_on (closing K o to end (get_or x end 0)) x end
 over-string K o x at to end e e' =
-    let ns : stringSet (get_or x to 0) ≡ false = rw e (end-other stringSet x string-zero at) in
+    let ns : string_set (get_or x to 0) ≡ false = rw e (end-other string_set x string-zero at) in
     let nb : blank (get_or x end 0) ≡ false = rw e' (end-other blank x blank-zero to) in
-    over stringSet (quoted K o) (λ p b t. unfold step in rw t) x at
+    over string_set (quoted K o) (λ p b t. unfold step in rw t) x at
     ∙ ap (reads (quoted K o) x) (sym e)
     ∙ same_here (quoted K o) (dropping K o to) x to (quoted-past K o to (get_or x to 0) ns)
     ∙ over blank (dropping K o to) (λ p b t. unfold step unquote in rw t) x to
@@ -232,7 +232,7 @@ module _ (K : Stack) (f : Frame) (x : Text) (at p : ℕ) (e : p ≡ end_of blank
   over-after = rw e (over blank (after K f) (λ p b t. unfold step in rw t) x at)
 
   -- after a container's opener and blanks: its closer, or its first child
-  pub begun-closes : get_or x p 0 ≡ closer f.kind → reads (begun K f) x at ≡ goesOn (whole K (closed f (suc p))) x p
+  pub begun-closes : get_or x p 0 ≡ closer f.kind → reads (begun K f) x at ≡ goes_on (whole K (closed f (suc p))) x p
   begun-closes h =
       let last : does (begun K f) p (get_or x p 0) ≡ whole K (closed f (suc p)) = unfold step in rw (other, h, closer-closer) in
       over-begun ∙ sees (begun K f) x p last
@@ -241,7 +241,7 @@ module _ (K : Stack) (f : Frame) (x : Text) (at p : ℕ) (e : p ≡ end_of blank
   begun-child h = over-begun ∙ same_here (begun K f) (before (child f.kind K f)) x p (unfold step in rw (other, ne_eqb (get_or x p 0) (closer f.kind) h))
 
   -- after a child and blanks: the closer, a comma, or neither
-  pub after-closes : get_or x p 0 ≡ closer f.kind → reads (after K f) x at ≡ goesOn (whole K (closed f (suc p))) x p
+  pub after-closes : get_or x p 0 ≡ closer f.kind → reads (after K f) x at ≡ goes_on (whole K (closed f (suc p))) x p
   after-closes h =
       let last : does (after K f) p (get_or x p 0) ≡ whole K (closed f (suc p)) = unfold step in rw (other, h, closer-comma, closer-closer) in
       over-after ∙ sees (after K f) x p last

@@ -3,10 +3,10 @@ use Rattle.std.specs.Prelude.{◌≡◌, ℕ, ◌≤◌}
 use Rattle.std.proofs.lemmas.List.Edits.{sets}
 use Rattle.cel_text.specs.Byte.{Text}
 use Rattle.cel_text.specs.Tree.{Tree}
-use Rattle.cel_text.specs.Reading.{maxDepth, maxNodes}
-use Rattle.cel_text.specs.Table.{Words, Left, untouched, cleared, filled, rows, nodeWords, nodesLeft}
-use Rattle.cel_text.specs.Answer.{Answer, refusedAt, findTree, tree, fault, maxText}
-use Rattle.parser.specs.Set.{stringSet}
+use Rattle.cel_text.specs.Reading.{max_depth, max_nodes}
+use Rattle.cel_text.specs.Table.{Words, Left, untouched, cleared, filled, rows, node_words, nodes_left}
+use Rattle.cel_text.specs.Answer.{Answer, refused_at, find_tree, tree, fault, max_text}
+use Rattle.parser.specs.Set.{string_set}
 use Rattle.parser.specs.declared.Answer.{Answer as Told}
 use Rattle.parser.specs.declared.Read.{Read}
 use Rattle.parser.specs.declared.Step.{Step}
@@ -20,14 +20,14 @@ told a = record { refusal = a.refusal; name = a.name; kind = a.kind; place = a.p
 -- a tree found, with its rows at the table's start, or a refusal that clears the table
 pub record Tree-found (x : Text) (w w' : Words) (r : Read) : Type 0 where
   pub found : Tree
-  pub finds : findTree stringSet nodeWords x ≡ tree found r.end.0
+  pub finds : find_tree string_set node_words x ≡ tree found r.end.0
   pub rows-put : w' ≡ sets w 0 (rows found)
-  pub sized : Sized found x 0 0 maxDepth r
+  pub sized : Sized found x 0 0 max_depth r
 
 pub record Fault-found (x : Text) (r p : ℕ) : Type 0 where
-  pub finds : findTree stringSet nodeWords x ≡ fault r p
-  pub clears : nodesLeft r ≡ cleared
-  pub within : p ≤ maxText
+  pub finds : find_tree string_set node_words x ≡ fault r p
+  pub clears : nodes_left r ≡ cleared
+  pub within : p ≤ max_text
 
 abbrev pub Finds : Text → (w w' : Words) → Step → Type 0
 Finds x w w' (Next r) = Tree-found x w w' r
@@ -35,19 +35,19 @@ Finds x w w' (Refused r p) = Fault-found x r p.0
 
 -- the numbers of a step fit an answer's
 abbrev pub Small : Step → Type 0
-Small (Next r) = (r.next.0 ≤ maxNodes) × (r.depth ≤ maxDepth)
-Small (Refused r p) = p.0 ≤ maxText
+Small (Next r) = (r.next.0 ≤ max_nodes) × (r.depth ≤ max_depth)
+Small (Refused r p) = p.0 ≤ max_text
 
 -- the answer about a tree that was read, and the answer that a step gives
-abbrev pub acceptedWith : Read → Answer
-acceptedWith r = record { refusal = 0; name = 0; kind = 0; place = 0; nodes = r.next.0; depth = r.depth }
+abbrev pub accepted_with : Read → Answer
+accepted_with r = record { refusal = 0; name = 0; kind = 0; place = 0; nodes = r.next.0; depth = r.depth }
 
 abbrev pub answer_of : Step → Answer
-answer_of (Next r) = acceptedWith r
-answer_of (Refused r p) = refusedAt r p.0
+answer_of (Next r) = accepted_with r
+answer_of (Refused r p) = refused_at r p.0
 
 -- the first of the counted words that is to be set to 0 after a read
-abbrev pub staleFrom : Left → ℕ
-staleFrom untouched = nodeWords
-staleFrom cleared = 0
-staleFrom filled = nodeWords
+abbrev pub stale_from : Left → ℕ
+stale_from untouched = node_words
+stale_from cleared = 0
+stale_from filled = node_words

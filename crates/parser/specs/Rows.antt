@@ -2,8 +2,8 @@
 use Rattle.cel_text.specs.Table.{Row}
 use Rattle.parser.specs.declared.row.Row.{Row as Told}
 
-abbrev pub rowTold : Told → Row
-rowTold r =
+abbrev pub row_told : Told → Row
+row_told r =
     record {
       kind = r.kind;
       from = r.from.0;

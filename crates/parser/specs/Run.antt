@@ -1,14 +1,14 @@
 -- Runs of a class of bytes, as the contracts of `scan` cite them. Assumes nothing.
 use Rattle.std.specs.Prelude.{◌≡◌, ℕ, zero, suc, ◌+◌, ◌*◌, ◌<◌, ◌≤◌, Bool, ◌&&◌, ◌||◌, length, drop, nat_le, slice_index}
-use Rattle.cel_text.specs.Byte.{Text, blank, identByte, ascii, lead}
-use Rattle.parser.specs.Set.{stringSet}
+use Rattle.cel_text.specs.Byte.{Text, blank, ident_byte, ascii, lead}
+use Rattle.parser.specs.Set.{string_set}
 use Rattle.parser.specs.declared.scan.Class.{Class}
 use Rattle.parser.specs.declared.scan.Class.TheVariants.{Blank, Ident, StringByte, Ascii}
 
 abbrev pub class_of : Class → ℕ → Bool
 class_of Blank = blank
-class_of Ident = identByte
-class_of StringByte = stringSet
+class_of Ident = ident_byte
+class_of StringByte = string_set
 class_of Ascii = ascii
 
 -- the two classes that identifiers and strings share
@@ -38,5 +38,5 @@ BytesAt x p (suc n) k = (slice_index x (p + k) < 256) × BytesAt x p n (suc k)
 -- blanks from place p on, an identifier with these ends, and blanks up to `end`
 pub record NamedAt (x : Text) (p from to end : ℕ) : Type 0 where
   pub begins : from ≡ end_of blank x p
-  pub stops : to ≡ end_of identByte x from
+  pub stops : to ≡ end_of ident_byte x from
   pub ends : end ≡ end_of blank x to

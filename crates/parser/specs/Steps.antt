@@ -4,11 +4,11 @@ use Rattle.std.specs.Prelude.{◌≡◌, ℕ, suc, ◌+◌, ◌*◌, ◌<◌, �
 use Rattle.std.proofs.lemmas.List.Edits.{sets}
 use Rattle.cel_text.specs.Byte.{Text}
 use Rattle.cel_text.specs.Tree.{Kind, Key, unkeyed, Tree, Trees, container, nodes, depth, count}
-use Rattle.cel_text.specs.Reading.{Stack, inside, Frame, level, opened, State, before, value, quoted, begun, child, fresh, Fault, Outcome, refused, follow, refuse, go, run, limits, maxDepth, maxNodes}
-use Rattle.cel_text.specs.Table.{Words, rows_of, rowsAll, stringKind, kindNumber, keyFrom, keyTo, rowWords, nodeWords}
-use Rattle.cel_text.specs.Answer.{faultNumber, maxText}
+use Rattle.cel_text.specs.Reading.{Stack, inside, Frame, level, opened, State, before, value, quoted, begun, child, fresh, Fault, Outcome, refused, follow, refuse, go, run, limits, max_depth, max_nodes}
+use Rattle.cel_text.specs.Table.{Words, rows_of, rows_all, string_kind, kind_number, key_from, key_to, row_words, node_words}
+use Rattle.cel_text.specs.Answer.{fault_number, max_text}
 use Rattle.cel_text.specs.Laws.Run.{resume}
-use Rattle.parser.specs.Set.{stringSet}
+use Rattle.parser.specs.Set.{string_set}
 use Rattle.parser.specs.declared.Read.{Read}
 use Rattle.parser.specs.declared.Step.{Step}
 use Rattle.parser.specs.declared.Step.TheVariants.{Next, Refused}
@@ -17,57 +17,57 @@ use Rattle.parser.specs.declared.value.Labelled.{Labelled}
 use Rattle.parser.specs.declared.value.Labelled.TheVariants.{As, Unlabelled}
 use Rattle.parser.specs.declared.value.Pass.{Pass}
 use Rattle.parser.specs.declared.value.Pass.TheVariants.{Past, Stopped}
-use Rattle.parser.specs.Kinds.{kind_of, opens, openState}
+use Rattle.parser.specs.Kinds.{kind_of, opens, open_state}
 
 -- the machine at place p of x
 abbrev pub reads : State → Text → ℕ → Outcome
-reads st x p = run stringSet limits st p (drop p x)
+reads st x p = run string_set limits st p (drop p x)
 
 -- what the step s at place p leads to
-abbrev pub goesOn : Rattle.cel_text.specs.Reading.Step → Text → ℕ → Outcome
-goesOn s x p = follow s p (λ st. reads st x (suc p))
+abbrev pub goes_on : Rattle.cel_text.specs.Reading.Step → Text → ℕ → Outcome
+goes_on s x p = follow s p (λ st. reads st x (suc p))
 
 -- a stack at which a value is due where n nodes have opened and `left` more containers may open
 pub record Around (K : Stack) (n left : ℕ) : Type 0 where
-  pub below : level K + left ≡ maxDepth
+  pub below : level K + left ≡ max_depth
   pub sofar : opened K ≡ n
 
 -- the machine, from a state for each stack around, refuses as the answer says
 pub record RefusedBy (st : Stack → State) (x : Text) (at n left r p : ℕ) : Type 0 where
   pub fault : Fault
-  pub number : faultNumber fault ≡ r
+  pub number : fault_number fault ≡ r
   pub refuses : (K : Stack) → Around K n left → reads (st K) x at ≡ refused fault p
   pub within : p ≤ length x
 
 -- what is lent and where reading stands
 pub record Limited (x : Text) (w : Words) (at n left : ℕ) : Type 0 where
-  pub short : length x ≤ maxText
+  pub short : length x ≤ max_text
   pub inside : at ≤ length x
-  pub counted : length w ≡ nodeWords
-  pub few : n ≤ maxNodes
-  pub fewLeft : left ≤ maxDepth
+  pub counted : length w ≡ node_words
+  pub few : n ≤ max_nodes
+  pub few_left : left ≤ max_depth
 
 -- what opens the value that is due at place p
 pub record Headed (x : Text) (p kind from to o : ℕ) : Type 0 where
-  pub enters : (K : Stack) → reads (before (value K)) x p ≡ goesOn (opens kind K from to o) x o
+  pub enters : (K : Stack) → reads (before (value K)) x p ≡ goes_on (opens kind K from to o) x o
   pub later : p ≤ o
   pub within : o ≤ length x
   pub opener : (kind ≢ 0) → o < length x
-  pub fromIn : from ≤ length x
-  pub toIn : to ≤ length x
-  pub numbered : (kind ≢ 0) → (kind ≢ stringKind) → kindNumber (kind_of kind) ≡ kind
+  pub from_in : from ≤ length x
+  pub to_in : to ≤ length x
+  pub numbered : (kind ≢ 0) → (kind ≢ string_kind) → kind_number (kind_of kind) ≡ kind
 
 -- an opener of this kind at place p, under the limits
 pub record Entered (kind p n left q : ℕ) : Type 0 where
   pub next : q ≡ suc p
   pub some : kind ≡ 0 → ⊥
-  pub room : n < maxNodes
-  pub deeper : (kind ≢ stringKind) → 0 < left
-  pub goes : (K : Stack) (from to : ℕ) → Around K n left → opens kind K from to p ≡ go (openState kind K from to p)
+  pub room : n < max_nodes
+  pub deeper : (kind ≢ string_kind) → 0 < left
+  pub goes : (K : Stack) (from to : ℕ) → Around K n left → opens kind K from to p ≡ go (open_state kind K from to p)
 
 pub record NotEntered (kind p n left r q : ℕ) : Type 0 where
   pub fault : Fault
-  pub number : faultNumber fault ≡ r
+  pub number : fault_number fault ≡ r
   pub refuses : (K : Stack) (from to : ℕ) → Around K n left → opens kind K from to p ≡ refuse fault
   pub there : q ≡ p
 
@@ -82,18 +82,18 @@ pub record Sized (t : Tree) (x : Text) (at n left : ℕ) (r : Read) : Type 0 whe
   pub later : at < r.end.0
   pub within : r.end.0 ≤ length x
   pub more : n < r.next.0
-  pub room : r.next.0 ≤ maxNodes
+  pub room : r.next.0 ≤ max_nodes
   pub shallow : r.depth ≤ left
 
 -- reading on after the value t of a step
 abbrev pub resumes : Stack → Tree → Text → Read → Outcome
-resumes K t x r = resume stringSet limits K t r.end.0 (drop r.end.0 x)
+resumes K t x r = resume string_set limits K t r.end.0 (drop r.end.0 x)
 
 -- a whole value, from a state for each stack around: its tree and its rows
 pub record WholeValue (st : Stack → State) (x : Text) (w w' : Words) (at n left kf kt u : ℕ) (r : Read) : Type 0 where
   pub tree : Tree
   pub reading : (K : Stack) → Around K n left → reads (st K) x at ≡ resumes K tree x r
-  pub rows : (k : Key) → keyFrom k ≡ kf → keyTo k ≡ kt → w' ≡ sets w (rowWords * n) (rows_of tree k u n)
+  pub rows : (k : Key) → key_from k ≡ kf → key_to k ≡ kt → w' ≡ sets w (row_words * n) (rows_of tree k u n)
   pub sized : Sized tree x at n left r
 
 abbrev pub Valued : Text → (w w' : Words) → (at n left kf kt u : ℕ) → Step → Type 0
@@ -112,14 +112,14 @@ framed c o from to ts k = record { kind = c; o = o; from = from; to = to; childr
 -- the key of the child of a container of kind c that is due at place p, and where its value is due
 pub record Keyed (x : Text) (c : Kind) (p : ℕ) (k : Found) : Type 0 where
   pub label : Key
-  pub keyfrom : keyFrom label ≡ k.from.0
-  pub keyto : keyTo label ≡ k.to.0
+  pub keyfrom : key_from label ≡ k.from.0
+  pub keyto : key_to label ≡ k.to.0
   pub due : (K : Stack) (o from to : ℕ) (ts : Trees)
       → reads (before (child c K (framed c o from to ts unkeyed))) x p ≡ reads (before (value (inside K (framed c o from to ts label)))) x k.due.0
   pub later : p ≤ k.due.0
   pub within : k.due.0 ≤ length x
-  pub fromIn : k.from.0 ≤ length x
-  pub toIn : k.to.0 ≤ length x
+  pub from_in : k.from.0 ≤ length x
+  pub to_in : k.to.0 ≤ length x
 
 -- a child of a container of kind c, from where it is due: its key, its tree and its rows
 pub record WholeChild (c : Kind) (x : Text) (w w' : Words) (at n left u : ℕ) (r : Read) : Type 0 where
@@ -127,12 +127,12 @@ pub record WholeChild (c : Kind) (x : Text) (w w' : Words) (at n left u : ℕ) (
   pub tree : Tree
   pub reading : (K : Stack) (o from to : ℕ) (ts : Trees) → Around (inside K (framed c o from to ts label)) n left
       → reads (before (child c K (framed c o from to ts unkeyed))) x at ≡ resumes (inside K (framed c o from to ts label)) tree x r
-  pub rows : w' ≡ sets w (rowWords * n) (rows_of tree label u n)
+  pub rows : w' ≡ sets w (row_words * n) (rows_of tree label u n)
   pub sized : Sized tree x at n left r
 
 pub record ChildRefused (c : Kind) (x : Text) (at n left r p : ℕ) : Type 0 where
   pub fault : Fault
-  pub number : faultNumber fault ≡ r
+  pub number : fault_number fault ≡ r
   pub refuses : (K : Stack) (o from to : ℕ) (ts : Trees) → Around (inside K (framed c o from to ts unkeyed)) n left
       → reads (before (child c K (framed c o from to ts unkeyed))) x at ≡ refused fault p
   pub within : p ≤ length x
@@ -150,7 +150,7 @@ pub record WholeList (x : Text) (w w' : Words) (at n : ℕ) (c : Kind) (left : �
   pub children : Trees
   pub reading : (K : Stack) (o from to : ℕ) → Around K n (suc left)
       → reads (begun K (fresh c o from to)) x at ≡ resumes K (container c o from to r.end.0 children) x r
-  pub rows : w' ≡ sets (sets w (rowWords * suc n) (rowsAll children (suc n) (suc n))) (rowWords * n + 6) (count children ∷ r.next.0 ∷ [])
+  pub rows : w' ≡ sets (sets w (row_words * suc n) (rows_all children (suc n) (suc n))) (row_words * n + 6) (count children ∷ r.next.0 ∷ [])
   pub sized : (o from to q : ℕ) → Sized (container c o from to q children) x at n (suc left) r
 
 abbrev pub Listed : Text → (w w' : Words) → (at n kind left : ℕ) → Step → Type 0

@@ -5,10 +5,10 @@ pub mod scan;
 mod value;
 
 ghost use Rattle.std.specs.Prelude.{◌≡◌, ◌≤◌, length};
-ghost use Rattle.cel_text.specs.Reading.{maxDepth, maxNodes};
-ghost use Rattle.cel_text.specs.Table.{nodeWords, nodesLeft};
-ghost use Rattle.cel_text.specs.Answer.{maxText, refusedAt, treeAnswer, treeTable, treeOver};
-ghost use Rattle.parser.specs.Found.{told, Finds, Small, answer_of, acceptedWith, staleFrom};
+ghost use Rattle.cel_text.specs.Reading.{max_depth, max_nodes};
+ghost use Rattle.cel_text.specs.Table.{node_words, nodes_left};
+ghost use Rattle.cel_text.specs.Answer.{max_text, refused_at, tree_answer, tree_table, tree_over};
+ghost use Rattle.parser.specs.Found.{told, Finds, Small, answer_of, accepted_with, stale_from};
 
 // A place in the text: how many bytes stand before it.
 #[derive(Drop)]
@@ -104,8 +104,8 @@ pub const MISSING_RESPONSE_CERTIFICATION_PROPERTY: u32 = 16;
 // Reads the text. A table of under 2,048 words is refused and left alone; of a longer one the first 2,048 words count, and those
 // after the rows are 0.
 pub fn read_tree(text: &[u8], table: &mut [u32]) -> Answer
-    ensures answer { told result ≡ treeAnswer (length table.old) text.now }
-    ensures table { table.new ≡ treeTable text.now table.old }
+    ensures answer { told result ≡ tree_answer (length table.old) text.now }
+    ensures table { table.new ≡ tree_table text.now table.old }
 {
     if table.len() < NODE_WORDS {
         return too_short();
@@ -116,8 +116,8 @@ pub fn read_tree(text: &[u8], table: &mut [u32]) -> Answer
 
 // The same, but the words after an accepted tree's rows stay as lent.
 pub fn read_over(text: &[u8], table: &mut [u32]) -> Answer
-    ensures answer { told result ≡ treeAnswer (length table.old) text.now }
-    ensures table { table.new ≡ treeOver text.now table.old }
+    ensures answer { told result ≡ tree_answer (length table.old) text.now }
+    ensures table { table.new ≡ tree_over text.now table.old }
 {
     if table.len() < NODE_WORDS {
         return too_short();
@@ -130,14 +130,14 @@ pub fn read_over(text: &[u8], table: &mut [u32]) -> Answer
 
 // The answer where a lent table is too short: nothing is read.
 pub fn too_short() -> Answer
-    ensures { told result ≡ refusedAt 1 0 }
+    ensures { told result ≡ refused_at 1 0 }
 {
     refused(TABLE_TOO_SHORT, Place(0))
 }
 
 // Refusals 2 and 3, then the value that the text begins with.
 fn find(text: &[u8], table: &mut [u32]) -> Step
-    requires { length table.old ≡ nodeWords }
+    requires { length table.old ≡ node_words }
     ensures { Finds text.now table.old table.new result }
 {
     if MAX_TEXT < text.len() {
@@ -171,8 +171,8 @@ fn answer_of(step: Step) -> Answer
 
 // The answer about the tree that was read.
 fn accepted(read: Read) -> Answer
-    requires { (read.next.0 ≤ maxNodes) × (read.depth ≤ maxDepth) }
-    ensures { told result ≡ acceptedWith read }
+    requires { (read.next.0 ≤ max_nodes) × (read.depth ≤ max_depth) }
+    ensures { told result ≡ accepted_with read }
 {
     let nodes = read.next;
     Answer {
@@ -187,8 +187,8 @@ fn accepted(read: Read) -> Answer
 
 // The answer of a refusal without a tree.
 fn refused(refusal: u32, place: Place) -> Answer
-    requires { place.0 ≤ maxText }
-    ensures { told result ≡ refusedAt refusal place.0 }
+    requires { place.0 ≤ max_text }
+    ensures { told result ≡ refused_at refusal place.0 }
 {
     Answer {
         refusal,
@@ -202,7 +202,7 @@ fn refused(refusal: u32, place: Place) -> Answer
 
 // The first of the counted words in which a read with this refusal may have left what does not belong there.
 fn stale(refusal: u32) -> usize
-    ensures { result ≡ staleFrom (nodesLeft refusal) }
+    ensures { result ≡ stale_from (nodes_left refusal) }
 {
     match refusal {
         ACCEPTED | UNEXPECTED_NODE_TYPE..=MISSING_RESPONSE_CERTIFICATION_PROPERTY => NODE_WORDS,

@@ -1,9 +1,9 @@
 // The rows of the lent table, eight words for each node.
 ghost use Rattle.std.specs.Prelude.{◌≡◌, suc, ◌+◌, ◌-◌, ◌*◌, ◌^◌, ◌<◌, ◌≤◌, [], ◌∷◌, ◌++◌, length, take, replicate};
 ghost use Rattle.std.proofs.lemmas.List.Edits.{sets};
-ghost use Rattle.cel_text.specs.Reading.{maxNodes};
-ghost use Rattle.cel_text.specs.Table.{rowWords, wordsAt, row_at};
-ghost use Rattle.parser.specs.Rows.{rowTold};
+ghost use Rattle.cel_text.specs.Reading.{max_nodes};
+ghost use Rattle.cel_text.specs.Table.{row_words, words_at, row_at};
+ghost use Rattle.parser.specs.Rows.{row_told};
 
 use crate::{Node, Place, ROW_WORDS};
 
@@ -26,7 +26,7 @@ pub struct Row {
 
 // The row of this node, all 0 where the table has no such whole row.
 pub fn read_row(table: &[u32], node: Node) -> Row
-    ensures { rowTold result ≡ row_at table.now node.0 }
+    ensures { row_told result ≡ row_at table.now node.0 }
 {
     if table.len() / ROW_WORDS <= node.0 {
         return no_row();
@@ -45,7 +45,7 @@ pub fn read_row(table: &[u32], node: Node) -> Row
 }
 
 fn no_row() -> Row
-    ensures { rowTold result ≡ wordsAt [] 0 }
+    ensures { row_told result ≡ words_at [] 0 }
 {
     Row {
         kind: 0,
@@ -70,9 +70,9 @@ pub(crate) fn open_row(
     keyto: Place,
     parent: Parent,
 )
-    requires node_in_bounds { rowWords * suc node.0 ≤ length table.old }
+    requires node_in_bounds { row_words * suc node.0 ≤ length table.old }
     requires from_bound { (from.0 < 2 ^ 32) × (to.0 < 2 ^ 32) × (keyfrom.0 < 2 ^ 32) × (keyto.0 < 2 ^ 32) }
-    ensures { table.new ≡ sets table.old (rowWords * node.0) (kind ∷ from.0 ∷ to.0 ∷ keyfrom.0 ∷ keyto.0 ∷ parent.0 ∷ []) }
+    ensures { table.new ≡ sets table.old (row_words * node.0) (kind ∷ from.0 ∷ to.0 ∷ keyfrom.0 ∷ keyto.0 ∷ parent.0 ∷ []) }
 {
     let at = ROW_WORDS * node.0;
     table[at] = kind;
@@ -85,9 +85,9 @@ pub(crate) fn open_row(
 
 // The words that are known where it closes: its children, and the first node after its subtree.
 pub(crate) fn close_row(table: &mut [u32], node: Node, children: usize, past: Node)
-    requires node_in_bounds { rowWords * suc node.0 ≤ length table.old }
+    requires node_in_bounds { row_words * suc node.0 ≤ length table.old }
     requires children_bound { (children < 2 ^ 32) × (past.0 < 2 ^ 32) }
-    ensures { table.new ≡ sets table.old (rowWords * node.0 + 6) (children ∷ past.0 ∷ []) }
+    ensures { table.new ≡ sets table.old (row_words * node.0 + 6) (children ∷ past.0 ∷ []) }
 {
     let at = ROW_WORDS * node.0;
     table[at + 6] = children as u32;
@@ -96,7 +96,7 @@ pub(crate) fn close_row(table: &mut [u32], node: Node, children: usize, past: No
 
 // The word of a parent with this number.
 pub(crate) fn under(node: Node) -> Parent
-    requires { node.0 < maxNodes }
+    requires { node.0 < max_nodes }
     ensures { result.0 ≡ suc node.0 }
 {
     Parent((node.0 + 1) as u32)

@@ -1,7 +1,7 @@
 // Bytes of the text, one at a time and by runs of a class.
 ghost use Rattle.std.specs.Prelude.{◌≡◌, ℕ, ◌+◌, ◌*◌, ◌^◌, ◌<◌, ◌≤◌, max, length, slice_index};
-ghost use Rattle.cel_text.specs.Byte.{blank, identByte, ascii};
-ghost use Rattle.parser.specs.Set.{stringSet};
+ghost use Rattle.cel_text.specs.Byte.{blank, ident_byte, ascii};
+ghost use Rattle.parser.specs.Set.{string_set};
 ghost use Rattle.parser.specs.Run.{class_of, end_of, number_at, BytesAt, Spaces, NamedAt, letter, digit};
 
 use crate::Place;
@@ -165,7 +165,7 @@ fn larger(a: u8, b: u8) -> u8
 
 // The end of the identifier that begins here.
 fn ident(text: &[u8], at: Place) -> Place
-    ensures { result.0 ≡ end_of identByte text.now at.0 }
+    ensures { result.0 ≡ end_of ident_byte text.now at.0 }
 {
     run_of(text, at, Class::Ident)
 }
@@ -207,7 +207,7 @@ fn is_blank(b: u8) -> bool
 }
 
 fn is_ident(b: u8) -> bool
-    ensures { result ≡ identByte b }
+    ensures { result ≡ ident_byte b }
 {
     if is_letter(b) {
         return true;
@@ -219,7 +219,7 @@ fn is_ident(b: u8) -> bool
 }
 
 fn is_string_byte(b: u8) -> bool
-    ensures { result ≡ stringSet b }
+    ensures { result ≡ string_set b }
 {
     if is_letter(b) {
         return true;

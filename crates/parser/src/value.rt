@@ -1,10 +1,10 @@
 // Values: what opens one, strings, and the cycle of values and lists, the depth left falling.
 ghost use Rattle.std.specs.Prelude.{◌≡◌, ◌+◌, ◌<◌, ◌≤◌, max, length};
 ghost use Rattle.cel_text.specs.Tree.{closer};
-ghost use Rattle.cel_text.specs.Reading.{maxNodes};
-ghost use Rattle.cel_text.specs.Table.{nodeWords};
-ghost use Rattle.cel_text.specs.Answer.{maxText};
-ghost use Rattle.parser.specs.Kinds.{kind_of, openerKind};
+ghost use Rattle.cel_text.specs.Reading.{max_nodes};
+ghost use Rattle.cel_text.specs.Table.{node_words};
+ghost use Rattle.cel_text.specs.Answer.{max_text};
+ghost use Rattle.parser.specs.Kinds.{kind_of, opener_kind};
 ghost use Rattle.parser.specs.Steps.{Headed, Opens, Labels, Limited, Valued, StringRead, ChildRead, Listed};
 
 use crate::row::Parent;
@@ -47,7 +47,7 @@ pub(crate) struct Head {
 
 // The byte b as an opener, after an identifier that is empty or not: the kind that it opens, or 0.
 fn opener_kind(b: u8, empty: bool) -> u32
-    ensures { result ≡ openerKind empty b }
+    ensures { result ≡ opener_kind empty b }
 {
     match b {
         b'{' => OBJECT,
@@ -107,7 +107,7 @@ fn opening(text: &[u8], at: Place) -> Head
 
 // The limits, and the place after the opener. Of two refusals at one place 5 comes before 6.
 fn enter(kind: u32, at: Place, node: Node, left: usize) -> Pass
-    requires { (at.0 ≤ maxText) × (node.0 ≤ maxNodes) }
+    requires { (at.0 ≤ max_text) × (node.0 ≤ max_nodes) }
     ensures { Opens kind at.0 node.0 left result }
 {
     if kind == 0 {
@@ -137,7 +137,7 @@ pub(crate) fn cel_value(
     parent: Parent,
 ) -> Step
     requires limited { Limited text.now table.old at.0 node.0 left }
-    requires keyfrom_le_max_text { (keyfrom.0 ≤ maxText) × (keyto.0 ≤ maxText) }
+    requires keyfrom_le_max_text { (keyfrom.0 ≤ max_text) × (keyto.0 ≤ max_text) }
     ensures { Valued text.now table.old table.new at.0 node.0 left keyfrom.0 keyto.0 parent.0 result }
 {
     let head = opening(text, at);
@@ -165,8 +165,8 @@ fn string(
     keyto: Place,
     parent: Parent,
 ) -> Step
-    requires at_in_bounds { (at.0 ≤ length text.now) × (length text.now ≤ maxText) × (node.0 < maxNodes) × (length table.old ≡ nodeWords) }
-    requires keyfrom_le_max_text { (keyfrom.0 ≤ maxText) × (keyto.0 ≤ maxText) }
+    requires at_in_bounds { (at.0 ≤ length text.now) × (length text.now ≤ max_text) × (node.0 < max_nodes) × (length table.old ≡ node_words) }
+    requires keyfrom_le_max_text { (keyfrom.0 ≤ max_text) × (keyto.0 ≤ max_text) }
     ensures { StringRead text.now table.old table.new at.0 node.0 keyfrom.0 keyto.0 parent.0 result }
 {
     let to = scan::run_of(text, at, Class::StringByte);

@@ -11,8 +11,8 @@ use lib.Seq.{take_all}
 use lib.Dec.{leb}
 use borrow.Author.Tests.{le-leb, lt-leb, leb-true}
 use Rattle.cel_text.specs.Byte.{Text}
-use Rattle.cel_text.specs.Table.{nodeWords}
-use Rattle.cel_policy.specs.Spans.{spanWords}
+use Rattle.cel_text.specs.Table.{node_words}
+use Rattle.cel_policy.specs.Spans.{span_words}
 use Rattle.pieces.specs.Pieces.{Wrote}
 use Rattle.pieces.specs.Laws.{wrote_none, wrote_then, wrote-length, wrote-whole}
 use Rattle.recording.specs.declared.Ending.{Ending}
@@ -23,10 +23,10 @@ use Rattle.recording.specs.declared.Why.{Why}
 use Rattle.recording.specs.declared.Why.TheVariants.{Wanting as Wants, Full, Over}
 use Rattle.recording.specs.declared.window.Event.{Event}
 use Rattle.recording.specs.declared.window.Event.TheVariants.{Body, Skipping, Skipped, Wanting, Last}
-use Rattle.recording.specs.Replay.{replyOver, replyTo, tooLong, lastLine}
-use Rattle.recording.specs.Window.{event, part, says, takes, becomes, goes, skippingOn}
-use Rattle.recording.specs.Turn.{Turned, begun, stepped, lineRoom, onward, turnFrom, maxCount, countable, turned, turn_of}
-use Rattle.recording.specs.Steps.{Counts, isFull, turnAt, Answered, After, Stepped, turns, Drained}
+use Rattle.recording.specs.Replay.{reply_over, reply_to, too_long, last_line}
+use Rattle.recording.specs.Window.{event, part, says, takes, becomes, goes, skipping_on}
+use Rattle.recording.specs.Turn.{Turned, begun, stepped, line_room, onward, turn_from, max_count, countable, turned, turn_of}
+use Rattle.recording.specs.Steps.{Counts, is_full, turn_at, Answered, After, Stepped, turns, Drained}
 use Rattle.recording.specs.Laws.Event.{Moves, event-moves}
 use Rattle.recording.specs.Laws.Lengths.{says-short}
 use Rattle.recording.specs.Laws.Turn.{Kept, kept-begun, kept_step, step-uses, turned-not, turned-is}
@@ -43,26 +43,26 @@ room-sum a b m h =
 pub moved : (k : ℕ) (w : Text) (ended : Bool) (e : Event) → e ≡ event k w ended → Moves (length w) ended e
 moved k w ended e q = subst (Moves (length w) ended) (sym q) (event-moves w ended k)
 
-pub reply-to : (w v : ℕ) (t : Text) (r : Reply) → w ≡ nodeWords → v ≡ spanWords → r ≡ replyOver w v t → r ≡ replyTo t
-unfolding replyTo
+pub reply-to : (w v : ℕ) (t : Text) (r : Reply) → w ≡ node_words → v ≡ span_words → r ≡ reply_over w v t → r ≡ reply_to t
+unfolding reply_to
 reply-to w v t r p q e = rw (p, q) at e
 
 module _ (t r : Turn) (w out out' : Text) where
-  pub body-after : (from to : ℕ) (a : Reply) → a ≡ replyTo (part from to w) → Answered t to a out out' r → After t w (Body from to) out out' r
+  pub body-after : (from to : ℕ) (a : Reply) → a ≡ reply_to (part from to w) → Answered t to a out out' r → After t w (Body from to) out out' r
   body-after from to a e h = record { turn = rw e at h.turn; wrote = rw e at h.wrote }
 
-  pub skipped-after : (to : ℕ) (a : Reply) → a ≡ tooLong → Answered t to a out out' r → After t w (Skipped to) out out' r
+  pub skipped-after : (to : ℕ) (a : Reply) → a ≡ too_long → Answered t to a out out' r → After t w (Skipped to) out out' r
   skipped-after to a e h = record { turn = rw e at h.turn; wrote = rw e at h.wrote }
 
-  pub last-after : (e : Ending) (end : ℕ) → r ≡ turnAt t.state t.used end Over → Wrote out out' t.written end (lastLine t.state.count t.state.refused e)
+  pub last-after : (e : Ending) (end : ℕ) → r ≡ turn_at t.state t.used end Over → Wrote out out' t.written end (last_line t.state.count t.state.refused e)
       → After t w (Last e) out out' r
   last-after e end q h = rw q (record { turn = rw add-zero; wrote = h })
 
 module _ (t r : Turn) (w out : Text) where
-  pub skipping-after : (to left : ℕ) → r ≡ turnAt (skippingOn t.state left) (t.used + to) t.written Full → After t w (Skipping to left) out out r
+  pub skipping-after : (to left : ℕ) → r ≡ turn_at (skipping_on t.state left) (t.used + to) t.written Full → After t w (Skipping to left) out out r
   skipping-after to left q = rw q (record { turn = refl; wrote = wrote_none out t.written })
 
-  pub wanting-after : r ≡ turnAt t.state t.used t.written Wants → After t w Wanting out out r
+  pub wanting-after : r ≡ turn_at t.state t.used t.written Wants → After t w Wanting out out r
   wanting-after q = rw q (record { turn = rw add-zero; wrote = wrote_none out t.written })
 
 pub after-as : (t r : Turn) (w out out' : Text) (e e' : Event) → e ≡ e' → After t w e out out' r → After t w e' out out' r
@@ -73,12 +73,12 @@ after-as t r w out out' e e' q h = subst (λ (x : Event). After t w x out out' r
 true-false : {P : Type 0} → ◌≡◌ {A = Bool} true false → P
 true-false e = absurd (let z : ◌≡◌ {A = ℕ} 0 1 = cc in omega arith)
 
-is-full : (a : Why) → isFull a ≡ true → a ≡ Full
+is-full : (a : Why) → is_full a ≡ true → a ≡ Full
 is-full Wants e = true-false (sym e)
 is-full Full e = refl
 is-full Over e = true-false (sym e)
 
-stops : (next : Turned → Turned) (t : Turned) (a : Why) → isFull a ≡ false → onward next t a ≡ t
+stops : (next : Turned → Turned) (t : Turned) (a : Why) → is_full a ≡ false → onward next t a ≡ t
 stops next t Wants e = refl
 stops next t Full e = true-false e
 stops next t Over e = refl
@@ -102,10 +102,10 @@ module _ (s : State) (held : Text) (ended : Bool) (out₀ : Text) where
     pub wrote : Wrote out₀ out 0 (length t.wrote) t.wrote
     pub kept : Kept s held ended (length out₀) t
     pub live : t.why ≡ Full
-    pub same : turns s held ended (length out₀) ≡ turnFrom (suc most) held ended (length out₀) t
+    pub same : turns s held ended (length out₀) ≡ turn_from (suc most) held ended (length out₀) t
     pub enough : length held - t.used ≤ most
 
-  pub going-first : Going out₀ (turnAt s 0 0 Full)
+  pub going-first : Going out₀ (turn_at s 0 0 Full)
   going-first =
       record {
         t = begun s;
@@ -125,20 +125,20 @@ module _ (s : State) (held : Text) (ended : Bool) (out₀ : Text) where
     pub told : turn ≡ turn_of t
     pub wrote : Wrote out₀ out 0 (length t.wrote) t.wrote
     pub kept : Kept s held ended (length out₀) t
-    pub same : turns s held ended (length out₀) ≡ onward (λ (v : Turned). turnFrom most held ended (length out₀) v) t t.why
+    pub same : turns s held ended (length out₀) ≡ onward (λ (v : Turned). turn_from most held ended (length out₀) v) t t.why
     pub further : t.why ≡ Full → from < t.used
     pub enough : t.why ≡ Full → length held - t.used < most
 
   module _ (c : Counts s 0 (length held)) where
     went-by :
         (out out' : Text) (t : Turned) (most : ℕ) (r : Turn) → Wrote out₀ out 0 (length t.wrote) t.wrote → Kept s held ended (length out₀) t → t.why ≡ Full
-        → turns s held ended (length out₀) ≡ turnFrom (suc most) held ended (length out₀) t → length held - t.used ≤ most
-        → lineRoom ≤ length out₀ - length t.wrote → Stepped (turn_of t) (drop t.used held) ended out out' r → Went t.used out' r
+        → turns s held ended (length out₀) ≡ turn_from (suc most) held ended (length out₀) t → length held - t.used ≤ most
+        → line_room ≤ length out₀ - length t.wrote → Stepped (turn_of t) (drop t.used held) ended out out' r → Went t.used out' r
     unfolding stepped
     went-by out out' t most r p k live q l b a =
         let w : Text = drop t.used held in
         let e : Event = event t.state.skip (drop t.used held) ended in
-        let n : length (says t.state (drop t.used held) e) ≤ lineRoom =
+        let n : length (says t.state (drop t.used held) e) ≤ line_room =
         says-short t.state (drop t.used held) e (omega (arith, k.count, c.count)) (omega (arith, k.refused, c.refused)) in
         let o : length out ≡ length out₀ = wrote-length p in
         let f : length t.wrote + length (says t.state (drop t.used held) e) ≤ length out = omega (arith, k.fits) in
@@ -148,27 +148,27 @@ module _ (s : State) (held : Text) (ended : Bool) (out₀ : Text) where
         record {
           t = stepped t held ended;
           most = most;
-          told = a.turn ∙ ap (λ (m : ℕ). turnAt (becomes t.state w e) (t.used + takes e) m (goes e)) z;
+          told = a.turn ∙ ap (λ (m : ℕ). turn_at (becomes t.state w e) (t.used + takes e) m (goes e)) z;
           wrote = subst (λ (m : ℕ). Wrote out₀ out' 0 m (t.wrote ++ says t.state w e)) z (wrote_then p a.wrote);
           kept = j;
-          same = q ∙ rw (le-leb lineRoom (length out₀ - length t.wrote) b);
+          same = q ∙ rw (le-leb line_room (length out₀ - length t.wrote) b);
           further = λ g. step-uses s held ended (length out₀) c.count c.refused t k live g;
           enough = λ g. omega (arith, step-uses s held ended (length out₀) c.count c.refused t k live g, j.within);
         }
 
-    pub went : (out out' : Text) (turn r : Turn) (g : Going out turn) → lineRoom ≤ length out - turn.written
+    pub went : (out out' : Text) (turn r : Turn) (g : Going out turn) → line_room ≤ length out - turn.written
         → Stepped turn (take (length held - turn.used) (drop turn.used held)) ended out out' r → Went turn.used out' r
     went out out' turn r g b a =
         subst (λ (x : Turn). Went x.used out' r) (sym g.told)
         (went-by out out' g.t g.most r g.wrote g.kept g.live g.same g.enough
-        (subst (λ (x : Turn). lineRoom ≤ length out₀ - x.written) g.told (rw (wrote-length g.wrote) at b))
+        (subst (λ (x : Turn). line_room ≤ length out₀ - x.written) g.told (rw (wrote-length g.wrote) at b))
         (subst (λ (x : Turn). Stepped x (drop x.used held) ended out out' r) g.told
         (subst (λ (x : Text). Stepped turn x ended out out' r) (rest_all held turn.used) a)))
 
   -- a step that goes on, and one that does not
   going-by :
       (out : Text) (turn : Turn) (t : Turned) (most : ℕ) → turn ≡ turn_of t → Wrote out₀ out 0 (length t.wrote) t.wrote → Kept s held ended (length out₀) t
-      → turns s held ended (length out₀) ≡ onward (λ (v : Turned). turnFrom most held ended (length out₀) v) t t.why
+      → turns s held ended (length out₀) ≡ onward (λ (v : Turned). turn_from most held ended (length out₀) v) t t.why
       → length held - t.used < most → t.why ≡ Full → Going out turn
   going-by out turn t zero e p k q l f = absurd (omega arith)
   going-by out turn t (suc most) e p k q l f =
@@ -179,14 +179,14 @@ module _ (s : State) (held : Text) (ended : Bool) (out₀ : Text) where
         wrote = p;
         kept = k;
         live = f;
-        same = q ∙ goes_on (λ (v : Turned). turnFrom (suc most) held ended (length out₀) v) t t.why f;
+        same = q ∙ goes_on (λ (v : Turned). turn_from (suc most) held ended (length out₀) v) t t.why f;
         enough = omega arith;
       }
 
-  full-why : (turn : Turn) (t : Turned) → turn ≡ turn_of t → isFull turn.why ≡ true → t.why ≡ Full
-  full-why turn t e f = is-full t.why (sym (ap (λ (x : Turn). isFull x.why) e) ∙ f)
+  full-why : (turn : Turn) (t : Turned) → turn ≡ turn_of t → is_full turn.why ≡ true → t.why ≡ Full
+  full-why turn t e f = is-full t.why (sym (ap (λ (x : Turn). is_full x.why) e) ∙ f)
 
-  pub going_next : (from : ℕ) (out : Text) (turn : Turn) → Went from out turn → isFull turn.why ≡ true → Going out turn
+  pub going_next : (from : ℕ) (out : Text) (turn : Turn) → Went from out turn → is_full turn.why ≡ true → Going out turn
   going_next from out turn g f =
       let w : g.t.why ≡ Full = full-why turn g.t g.told f in
       going-by out turn g.t g.most g.told g.wrote g.kept g.same (g.enough w) w
@@ -202,17 +202,17 @@ module _ (s : State) (held : Text) (ended : Bool) (out₀ : Text) where
             (subst (λ (x : Turn). Wrote out₀ out 0 x.written t.wrote) (sym e) p);
       }
 
-  pub drained-stop : (from : ℕ) (out : Text) (turn : Turn) → Went from out turn → isFull turn.why ≡ false → Drained s held ended out₀ out turn
+  pub drained-stop : (from : ℕ) (out : Text) (turn : Turn) → Went from out turn → is_full turn.why ≡ false → Drained s held ended out₀ out turn
   drained-stop from out turn g f =
       drained-by out turn g.t g.told g.wrote
       (g.same
-      ∙ stops (λ (v : Turned). turnFrom g.most held ended (length out₀) v) g.t g.t.why (sym (ap (λ (x : Turn). isFull x.why) g.told) ∙ f))
+      ∙ stops (λ (v : Turned). turn_from g.most held ended (length out₀) v) g.t g.t.why (sym (ap (λ (x : Turn). is_full x.why) g.told) ∙ f))
 
-  pub drained-full : (out : Text) (turn : Turn) → Going out turn → length out - turn.written < lineRoom → Drained s held ended out₀ out turn
+  pub drained-full : (out : Text) (turn : Turn) → Going out turn → length out - turn.written < line_room → Drained s held ended out₀ out turn
   drained-full out turn g b =
-      let l : length out₀ - length g.t.wrote < lineRoom =
-      subst (λ (x : Turn). length out₀ - x.written < lineRoom) g.told (rw (wrote-length g.wrote) at b) in
-      drained-by out turn g.t g.told g.wrote (g.same ∙ rw (lt-leb lineRoom (length out₀ - length g.t.wrote) l))
+      let l : length out₀ - length g.t.wrote < line_room =
+      subst (λ (x : Turn). length out₀ - x.written < line_room) g.told (rw (wrote-length g.wrote) at b) in
+      drained-by out turn g.t g.told g.wrote (g.same ∙ rw (lt-leb line_room (length out₀ - length g.t.wrote) l))
 
   -- what bounds the loop
   pub going-used : (out : Text) (turn : Turn) → Going out turn → turn.used ≤ length held
@@ -231,7 +231,7 @@ module _ (s : State) (held : Text) (ended : Bool) (out₀ : Text) where
       })
 
   -- a step that goes on uses a byte
-  pub went-less : (from : ℕ) (out : Text) (turn : Turn) → Went from out turn → isFull turn.why ≡ true → length held - turn.used < length held - from
+  pub went-less : (from : ℕ) (out : Text) (turn : Turn) → Went from out turn → is_full turn.why ≡ true → length held - turn.used < length held - from
   went-less from out turn g f =
       rw g.told (omega (arith, g.kept.within, g.further (full-why turn g.t g.told f)))
 
@@ -245,22 +245,22 @@ advances-as : (s : State) (held : Text) (ended : Bool) (out out' : Text) (r : Tu
     → (r ≡ turn_of t) × Wrote out out' 0 r.written t.wrote → Advances s held ended out out' r
 advances-as s held ended out out' r t e h = subst (λ (u : Turned). (r ≡ turn_of u) × Wrote out out' 0 r.written u.wrote) (sym e) h
 
-module _ (s : State) (held : Text) (ended : Bool) (out : Text) (r : Turn) (e : r ≡ turnAt s 0 0 Over) where
+module _ (s : State) (held : Text) (ended : Bool) (out : Text) (r : Turn) (e : r ≡ turn_at s 0 0 Over) where
   halts : countable s (length held) ≡ false → Advances s held ended out out r
   halts f =
       advances-as s held ended out out r (record { state = s; used = 0; wrote = []; why = Over }) (turned-not s held ended (length out) f)
       (rw e (refl, wrote_none out 0))
 
-  pub halts-first : leb (s.count + length held) maxCount ≡ false → Advances s held ended out out r
+  pub halts-first : leb (s.count + length held) max_count ≡ false → Advances s held ended out out r
   halts-first f = halts (rw f)
 
-  pub halts-second : leb (s.count + length held) maxCount ≡ true → leb (s.refused + length held) maxCount ≡ false → Advances s held ended out out r
+  pub halts-second : leb (s.count + length held) max_count ≡ true → leb (s.refused + length held) max_count ≡ false → Advances s held ended out out r
   halts-second f g = halts (rw (f, g))
 
-module _ (s : State) (held : Text) (f : leb (s.count + length held) maxCount ≡ true) (g : leb (s.refused + length held) maxCount ≡ true) where
-  pub counts : length held ≤ maxCount → Counts s 0 (length held)
+module _ (s : State) (held : Text) (f : leb (s.count + length held) max_count ≡ true) (g : leb (s.refused + length held) max_count ≡ true) where
+  pub counts : length held ≤ max_count → Counts s 0 (length held)
   counts h =
-      record { count = leb-true (s.count + length held) maxCount f; refused = leb-true (s.refused + length held) maxCount g; used = omega arith }
+      record { count = leb-true (s.count + length held) max_count f; refused = leb-true (s.refused + length held) max_count g; used = omega arith }
 
   pub advances : (ended : Bool) (out out' : Text) (r : Turn) → Drained s held ended out out' r → Advances s held ended out out' r
   advances ended out out' r d =

@@ -31,8 +31,8 @@ unfoldable pub stepped : Turned → (held : Text) → (ended : Bool) → Turned
 stepped t held ended = after t (drop t.used held) (event t.state.skip (drop t.used held) ended)
 
 -- room for any line
-abbrev pub lineRoom : ℕ
-lineRoom = 64
+abbrev pub line_room : ℕ
+line_room = 64
 
 -- a step more only where the turn goes on
 abbrev pub onward : (Turned → Turned) → Turned → Why → Turned
@@ -41,24 +41,24 @@ onward next t Full = next t
 onward next t Over = t
 
 -- at most `most` steps, each of them only where there is room for a line
-abbrev pub turnFrom : (most : ℕ) → (held : Text) → (ended : Bool) → (room : ℕ) → Turned → Turned
-turnFrom zero held ended room t = t
-turnFrom (suc most) held ended room t =
-    cond (leb lineRoom (room - length t.wrote))
-    (onward (λ (u : Turned). turnFrom most held ended room u) (stepped t held ended) (stepped t held ended).why)
+abbrev pub turn_from : (most : ℕ) → (held : Text) → (ended : Bool) → (room : ℕ) → Turned → Turned
+turn_from zero held ended room t = t
+turn_from (suc most) held ended room t =
+    cond (leb line_room (room - length t.wrote))
+    (onward (λ (u : Turned). turn_from most held ended room u) (stepped t held ended) (stepped t held ended).why)
     t
 
 -- all that can be counted in 64 bits
-abbrev pub maxCount : ℕ
-maxCount = 18446744073709551615
+abbrev pub max_count : ℕ
+max_count = 18446744073709551615
 
 abbrev pub countable : State → (held : ℕ) → Bool
-countable s held = leb (s.count + held) maxCount && leb (s.refused + held) maxCount
+countable s held = leb (s.count + held) max_count && leb (s.refused + held) max_count
 
 -- a step uses a byte of those held, or is the last
 unfoldable pub turned : State → (held : Text) → (ended : Bool) → (room : ℕ) → Turned
 turned s held ended room =
-    cond (countable s (length held)) (turnFrom (suc (length held)) held ended room (begun s))
+    cond (countable s (length held)) (turn_from (suc (length held)) held ended room (begun s))
     (record { state = s; used = 0; wrote = []; why = Over })
 
 -- the same in a turn's numbers

@@ -4,14 +4,14 @@ mod line;
 mod window;
 
 ghost use Rattle.std.specs.Prelude.{◌≡◌, ◌+◌, ◌≤◌, leb, length};
-ghost use Rattle.cel_text.specs.Table.{nodeWords};
-ghost use Rattle.cel_policy.specs.Spans.{spanWords};
+ghost use Rattle.cel_text.specs.Table.{node_words};
+ghost use Rattle.cel_policy.specs.Spans.{span_words};
 ghost use Rattle.pieces.specs.Pieces.{Wrote};
 ghost use Rattle.recording.specs.declared.Why.TheVariants.{Full, Over};
 ghost use Rattle.recording.specs.Replay.{heading};
-ghost use Rattle.recording.specs.Window.{withReply, skippingOn};
-ghost use Rattle.recording.specs.Turn.{beginning, maxCount, turned, turn_of};
-ghost use Rattle.recording.specs.Steps.{Counts, isFull, turnAt, Answered, Stepped, Drained};
+ghost use Rattle.recording.specs.Window.{with_reply, skipping_on};
+ghost use Rattle.recording.specs.Turn.{beginning, max_count, turned, turn_of};
+ghost use Rattle.recording.specs.Steps.{Counts, is_full, turn_at, Answered, Stepped, Drained};
 
 use window::Event;
 
@@ -95,13 +95,13 @@ pub fn advance(state: State, held: &[u8], ended: bool, out: &mut [u8]) -> Turn
 
 // Whether so many more can be counted.
 fn countable(count: u64, more: usize) -> bool
-    ensures { result ≡ leb (count + more) maxCount }
+    ensures { result ≡ leb (count + more) max_count }
 {
     more as u64 <= u64::MAX - count
 }
 
 fn halted(state: State) -> Turn
-    ensures { result ≡ turnAt state 0 0 Over }
+    ensures { result ≡ turn_at state 0 0 Over }
 {
     Turn {
         state,
@@ -136,7 +136,7 @@ fn drain(state: State, held: &[u8], ended: bool, out: &mut [u8]) -> Turn
 
 // Whether a turn goes on where there is room.
 fn full(turn: Turn) -> bool
-    ensures { result ≡ isFull turn.why }
+    ensures { result ≡ is_full turn.why }
 {
     let why = turn.why;
     match why {
@@ -156,7 +156,7 @@ fn step(
     spans: &mut [u32],
 ) -> Turn
     requires counts { Counts turn.state turn.used (length rest.now) }
-    requires nodes_len { (length nodes.old ≡ nodeWords) × (length spans.old ≡ spanWords) }
+    requires nodes_len { (length nodes.old ≡ node_words) × (length spans.old ≡ span_words) }
     ensures { Stepped turn rest.now ended out.old out.new result }
 {
     let state = turn.state;
@@ -179,7 +179,7 @@ fn step(
 // After a record's line.
 fn answered(turn: Turn, to: usize, reply: Reply, out: &mut [u8]) -> Turn
     requires counts { Counts turn.state 0 1 }
-    requires to_bound { turn.used + to ≤ maxCount }
+    requires to_bound { turn.used + to ≤ max_count }
     ensures { Answered turn to reply out.old out.new result }
 {
     let state = turn.state;
@@ -195,7 +195,7 @@ fn answered(turn: Turn, to: usize, reply: Reply, out: &mut [u8]) -> Turn
 // One record more.
 fn count_in(state: State, reply: Reply) -> State
     requires { Counts state 0 1 }
-    ensures { result ≡ withReply state reply }
+    ensures { result ≡ with_reply state reply }
 {
     if reply.answer == 0 {
         return State {
@@ -213,8 +213,8 @@ fn count_in(state: State, reply: Reply) -> State
 
 // Inside a record that is skipped.
 fn skipping(turn: Turn, to: usize, left: usize) -> Turn
-    requires { turn.used + to ≤ maxCount }
-    ensures { result ≡ turnAt (skippingOn turn.state left) (turn.used + to) turn.written Full }
+    requires { turn.used + to ≤ max_count }
+    ensures { result ≡ turn_at (skipping_on turn.state left) (turn.used + to) turn.written Full }
 {
     let state = turn.state;
     Turn {
@@ -230,7 +230,7 @@ fn skipping(turn: Turn, to: usize, left: usize) -> Turn
 }
 
 fn stopped(turn: Turn, written: usize, why: Why) -> Turn
-    ensures { result ≡ turnAt turn.state turn.used written why }
+    ensures { result ≡ turn_at turn.state turn.used written why }
 {
     let state = turn.state;
     Turn {

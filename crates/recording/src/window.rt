@@ -1,7 +1,7 @@
 // What the bytes held of a recording tell: one event at a time.
 ghost use Rattle.std.specs.Prelude.{◌≡◌, ◌≤◌, length};
 ghost use Rattle.groups.specs.declared.Number.TheVariants.{Cut};
-ghost use Rattle.recording.specs.Window.{event, bodyEvent, lengthEvent, skipEvent};
+ghost use Rattle.recording.specs.Window.{event, body_event, length_event, skip_event};
 
 use crate::Ending;
 use groups::Number;
@@ -37,7 +37,7 @@ pub(crate) fn next_event(held: &[u8], skip: usize, ended: bool) -> Event
 // After a length of n that took `size` of the bytes held.
 fn body_event(n: usize, size: usize, held: usize, ended: bool) -> Event
     requires { size ≤ held }
-    ensures { result ≡ bodyEvent n size held ended }
+    ensures { result ≡ body_event n size held ended }
 {
     if MAX_TEXT < n {
         return Event::Skipping(size, n);
@@ -53,7 +53,7 @@ fn body_event(n: usize, size: usize, held: usize, ended: bool) -> Event
 
 // Where the bytes held are no whole length.
 fn cut_event(held: usize, ended: bool) -> Event
-    ensures { result ≡ lengthEvent held ended Cut }
+    ensures { result ≡ length_event held ended Cut }
 {
     if !ended {
         return Event::Wanting;
@@ -66,7 +66,7 @@ fn cut_event(held: usize, ended: bool) -> Event
 
 // Inside a record to be skipped.
 fn skip_event(skip: usize, held: usize, ended: bool) -> Event
-    ensures { result ≡ skipEvent skip held ended }
+    ensures { result ≡ skip_event skip held ended }
 {
     if skip <= held {
         return Event::Skipped(skip);

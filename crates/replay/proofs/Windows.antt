@@ -10,7 +10,7 @@ use borrow.Author.Tests.{le-leb}
 use borrow.Rule.Slice.PartMut.{put_mid, post_of, same_len_mid, mid_len}
 use borrow.Table.Steps.{cases}
 use Rattle.cel_text.specs.Byte.{Text}
-use Rattle.lines.specs.Input.{broughtFront}
+use Rattle.lines.specs.Input.{brought_front}
 use Rattle.recording.specs.declared.State.{State}
 use Rattle.recording.specs.declared.Turn.{Turn}
 use Rattle.recording.specs.declared.Why.{Why}
@@ -18,10 +18,10 @@ use Rattle.recording.specs.declared.Why.TheVariants.{Wanting, Full, Over}
 use Rattle.recording.specs.Turn.{beginning, turned, turn_of, Runs, full, reads, ends}
 use Rattle.recording.specs.Laws.Turn.{turned-within, turned-wanting}
 use Rattle.replay.specs.declared.window.Held.{Held}
-use Rattle.replay.specs.Window.{is_last, Inside, windowOf, Reads, Read, Next, Follows, Asks, Leads}
+use Rattle.replay.specs.Window.{is_last, Inside, window_of, Reads, Read, Next, Follows, Asks, Leads}
 
-abbrev heldAs : (at end : ℕ) (ended failed : Bool) → Held
-heldAs at end ended failed = record { at = at; end = end; ended = ended; failed = failed }
+abbrev held_as : (at end : ℕ) (ended failed : Bool) → Held
+held_as at end ended failed = record { at = at; end = end; ended = ended; failed = failed }
 
 -- ---- a read
 
@@ -35,7 +35,7 @@ module _ (input part : Text) (kept more : ℕ) (h : kept ≤ length input) (l : 
   read_length : length (put_mid kept (length input - kept) input part) ≡ length input
   read_length = same_len_mid kept (length input - kept) input part (l ∙ sym (mid_len kept (length input) input (omega arith)))
 
-  pub read-brings : (ended failed : Bool) → (ended ≡ true → more ≡ 0) → Read kept input (put_mid kept (length input - kept) input part) (heldAs 0 (kept + more) ended failed)
+  pub read-brings : (ended failed : Bool) → (ended ≡ true → more ≡ 0) → Read kept input (put_mid kept (length input - kept) input part) (held_as 0 (kept + more) ended failed)
   read-brings ended failed f =
       record {
         inside = record { ordered = omega arith; room = rw read_length (omega arith) };
@@ -43,15 +43,15 @@ module _ (input part : Text) (kept more : ℕ) (h : kept ≤ length input) (l : 
       }
 
 -- after the bytes kept were brought to the front
-pub refilled : (input input' : Text) (at end : ℕ) (r : Held) → at ≤ end → end ≤ length input → Read (end - at) (broughtFront input at end) input' r
-    → Inside input' r × Reads (take (end - at) (drop at input)) (windowOf input' r) r.ended
+pub refilled : (input input' : Text) (at end : ℕ) (r : Held) → at ≤ end → end ≤ length input → Read (end - at) (brought_front input at end) input' r
+    → Inside input' r × Reads (take (end - at) (drop at input)) (window_of input' r) r.ended
 refilled input input' at end r h l d =
     let part : Text = take (end - at) (drop at input) in
     let long : length (take (end - at) (drop at input)) ≡ end - at = length-take-le (end - at) (drop at input) (simp length-drop (omega arith)) in
-    let e : broughtFront input at end ≡ take (end - at) (drop at input) ++ drop (end - at) input = rw (le-leb end (length input) l) in
-    let f : take (end - at) (broughtFront input at end) ≡ take (end - at) (drop at input) =
+    let e : brought_front input at end ≡ take (end - at) (drop at input) ++ drop (end - at) input = rw (le-leb end (length input) l) in
+    let f : take (end - at) (brought_front input at end) ≡ take (end - at) (drop at input) =
     ap (take (end - at)) e ∙ take_at (take (end - at) (drop at input)) (drop (end - at) input) (end - at) long in
-    (d.inside, subst (λ (x : Text). Reads x (windowOf input' r) r.ended) f d.brought)
+    (d.inside, subst (λ (x : Text). Reads x (window_of input' r) r.ended) f d.brought)
 
 -- ---- from turn to turn
 
@@ -68,22 +68,22 @@ left-window input at end used h =
     sym (drop-take used (end - at) (drop at input) ∙ rw (drop-drop, e))
 
 module _ (input : Text) (h : Held) (turn : Turn) (a : Asks input h turn) where
-  behind-window : windowOf input (heldAs (h.at + turn.used) h.end h.ended false) ≡ drop turn.used (windowOf input h)
+  behind-window : window_of input (held_as (h.at + turn.used) h.end h.ended false) ≡ drop turn.used (window_of input h)
   behind-window = left-window input h.at h.end turn.used a.used
 
-  behind-inside : Inside input (heldAs (h.at + turn.used) h.end h.ended false)
+  behind-inside : Inside input (held_as (h.at + turn.used) h.end h.ended false)
   behind-inside = record { ordered = a.used; room = a.inside.room }
 
-  pub follows-full : (r : Held) → turn.why ≡ Full → r ≡ heldAs (h.at + turn.used) h.end h.ended false → Follows input h turn input r
+  pub follows-full : (r : Held) → turn.why ≡ Full → r ≡ held_as (h.at + turn.used) h.end h.ended false → Follows input h turn input r
   follows-full r q e = rw e (record { inside = behind-inside; next = rw q (behind-window, refl) })
 
-  pub follows-over : (r : Held) → turn.why ≡ Over → r ≡ heldAs (h.at + turn.used) h.end h.ended false → Follows input h turn input r
+  pub follows-over : (r : Held) → turn.why ≡ Over → r ≡ held_as (h.at + turn.used) h.end h.ended false → Follows input h turn input r
   follows-over r q e = rw e (record { inside = behind-inside; next = rw q (behind-window, refl) })
 
   pub follows-read : (input' : Text) (r : Held) → turn.why ≡ Wanting
-      → Inside input' r × Reads (take (h.end - (h.at + turn.used)) (drop (h.at + turn.used) input)) (windowOf input' r) r.ended → Follows input h turn input' r
+      → Inside input' r × Reads (take (h.end - (h.at + turn.used)) (drop (h.at + turn.used) input)) (window_of input' r) r.ended → Follows input h turn input' r
   follows-read input' r q d =
       record {
         inside = d.0;
-        next = rw q (subst (λ (x : Text). Reads x (windowOf input' r) r.ended) (left-window input h.at h.end turn.used a.used) d.1);
+        next = rw q (subst (λ (x : Text). Reads x (window_of input' r) r.ended) (left-window input h.at h.end turn.used a.used) d.1);
       }

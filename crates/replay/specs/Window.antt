@@ -19,8 +19,8 @@ pub record Inside (input : Text) (h : Held) : Type 0 where
   pub room : h.end ≤ length input
 
 -- which bytes they are
-abbrev pub windowOf : Text → Held → Text
-windowOf input h = take (h.end - h.at) (drop h.at input)
+abbrev pub window_of : Text → Held → Text
+window_of input h = take (h.end - h.at) (drop h.at input)
 
 -- behind the bytes that were left stands a piece, none at the end of the input
 pub record Reads (rest window : Text) (ended : Bool) : Type 0 where
@@ -31,7 +31,7 @@ pub record Reads (rest window : Text) (ended : Bool) : Type 0 where
 -- one read behind the first `kept` bytes of the buffer
 pub record Read (kept : ℕ) (input input' : Text) (r : Held) : Type 0 where
   pub inside : Inside input' r
-  pub brought : Reads (take kept input) (windowOf input' r) r.ended
+  pub brought : Reads (take kept input) (window_of input' r) r.ended
 
 -- what a turn's reason to stop asks for
 abbrev pub Next : Why → (rest : Text) (ended : Bool) (window : Text) (ended' : Bool) → Type 0
@@ -42,7 +42,7 @@ Next Over rest ended window ended' = (window ≡ rest) × (ended' ≡ ended)
 -- what is held after a turn
 pub record Follows (input : Text) (h : Held) (turn : Turn) (input' : Text) (r : Held) : Type 0 where
   pub inside : Inside input' r
-  pub next : Next turn.why (drop turn.used (windowOf input h)) h.ended (windowOf input' r) r.ended
+  pub next : Next turn.why (drop turn.used (window_of input h)) h.ended (window_of input' r) r.ended
 
 -- that is asked for it: the turn used no more than was held, and leaves room to read where it wants bytes
 pub record Asks (input : Text) (h : Held) (turn : Turn) : Type 0 where

@@ -1,6 +1,6 @@
 // The bytes held of standard input: they lie in a lent buffer, from a place up to another.
 ghost use Rattle.std.specs.Prelude.{◌≡◌, ◌-◌, ◌≤◌, ◌<◌, true, false, length, take, drop};
-ghost use Rattle.replay.specs.Window.{Inside, Reads, windowOf, Read, Asks, Follows};
+ghost use Rattle.replay.specs.Window.{Inside, Reads, window_of, Read, Asks, Follows};
 
 use libc::STDIN_FILENO;
 use recording::{Turn, Why};
@@ -54,7 +54,7 @@ fn behind(held: Held, at: usize) -> Held
 fn refill(input: &mut [u8], at: usize, end: usize) -> Held
     requires { (at ≤ end) × (end ≤ length input.old) × (end - at < length input.old) }
     ensures inside { Inside input.new result }
-    ensures reads { Reads (take (end - at) (drop at input.old)) (windowOf input.new result) result.ended }
+    ensures reads { Reads (take (end - at) (drop at input.old)) (window_of input.new result) result.ended }
 {
     lines::to_front(input, at, end);
     read_more(input, end - at)

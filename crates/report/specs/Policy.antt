@@ -1,17 +1,17 @@
 -- An accepted text in words: its form, its lists, its nodes and depth, and its canonical text. Assumes nothing.
 use Rattle.std.specs.Prelude.{ℕ, ◌+◌, ◌-◌, ◌*◌, cond, List, [], ◌∷◌, length, eqb, leb}
 use Rattle.std.proofs.Math.Seq.{slice}
-use Rattle.cel_text.specs.Byte.{Text, ◌⧺◌, bytes, stringByte}
+use Rattle.cel_text.specs.Byte.{Text, ◌⧺◌, bytes, string_byte}
 use Rattle.cel_text.specs.Table.{Words}
-use Rattle.cel_text.specs.Answer.{Answer, maxText}
+use Rattle.cel_text.specs.Answer.{Answer, max_text}
 use Rattle.cel_policy.specs.Policy.{Span, Counted, skip, full, exclusions}
-use Rattle.cel_policy.specs.Spans.{spansAt}
-use Rattle.cel_policy.specs.Answers.{Printing, written, unprinted, findPrint}
+use Rattle.cel_policy.specs.Spans.{spans_at}
+use Rattle.cel_policy.specs.Answers.{Printing, written, unprinted, find_print}
 use Rattle.page.specs.Page.{shown, said}
 use Rattle.report.specs.Words.{message}
 
-unfoldable pub formText : (form : ℕ) → Text
-formText form =
+unfoldable pub form_text : (form : ℕ) → Text
+form_text form =
     message
     (bytes "|Accepted: Skip. Nothing is certified.\n"
     ⧺ bytes "|Accepted: ResponseOnly. The response is certified, the request is not.\n"
@@ -20,20 +20,20 @@ formText form =
     0
 
 -- a string in double quotes, on a line of its own; one of more than 72 bytes is cut, and its length said
-unfoldable pub stringText : Text → (from to : ℕ) → Text
-stringText x from to =
+unfoldable pub string_text : Text → (from to : ℕ) → Text
+string_text x from to =
     said (bytes "        \"") 0
     ⧺ cond (leb to (from + 72)) (shown (slice from to x) ⧺ said (bytes "\"\n") 0)
     (shown (slice from (from + 72) x) ⧺ said (bytes "...\", # bytes\n") (to - from))
 
-abbrev pub stringsText : Text → List Span → Text
-stringsText x [] = []
-stringsText x (s ∷ more) = stringText x s.from s.to ⧺ stringsText x more
+abbrev pub strings_text : Text → List Span → Text
+strings_text x [] = []
+strings_text x (s ∷ more) = string_text x s.from s.to ⧺ strings_text x more
 
 -- two titles for each list: without strings, and with some. The lists: request headers, query parameters, response headers that are certified, and
 -- that are not
-unfoldable pub titleText : (list count : ℕ) → Text
-titleText list count =
+unfoldable pub title_text : (list count : ℕ) → Text
+title_text list count =
     message
     (bytes "    Certified request headers: none, the list is empty.\n"
     ⧺ bytes "|    Certified request headers (#):\n"
@@ -47,31 +47,31 @@ titleText list count =
     count
 
 -- a list, its strings being `count` of the span table from string `first` on
-unfoldable pub listLines : Text → Words → (list first count : ℕ) → Text
-listLines x ws list first count = titleText list count ⧺ stringsText x (spansAt ws count first)
+unfoldable pub list_lines : Text → Words → (list first count : ℕ) → Text
+list_lines x ws list first count = title_text list count ⧺ strings_text x (spans_at ws count first)
 
 -- the lists of the request, which only Full has
-unfoldable pub requestLines : Text → Words → Counted → Text
-requestLines x ws k =
+unfoldable pub request_lines : Text → Words → Counted → Text
+request_lines x ws k =
     cond (eqb k.form full)
-    (listLines x ws 0 0 k.requestHeaders ⧺ listLines x ws 1 k.requestHeaders k.queryParameters)
+    (list_lines x ws 0 0 k.request_headers ⧺ list_lines x ws 1 k.request_headers k.query_parameters)
     []
 
 -- the lists, one after the other in the span table; Skip has none
-unfoldable pub listsLines : Text → Words → Counted → Text
-listsLines x ws k =
+unfoldable pub lists_lines : Text → Words → Counted → Text
+lists_lines x ws k =
     cond (eqb k.form skip) []
     (said (bytes "\n") 0
-    ⧺ requestLines x ws k
-    ⧺ listLines x ws (cond (eqb k.kind exclusions) 3 2) (k.requestHeaders + k.queryParameters) k.responseHeaders)
+    ⧺ request_lines x ws k
+    ⧺ list_lines x ws (cond (eqb k.kind exclusions) 3 2) (k.request_headers + k.query_parameters) k.response_headers)
 
-unfoldable pub sizeText : Answer → Text
-sizeText a = said (bytes "\n# nodes, depth ") a.nodes ⧺ said (bytes "#. ") a.depth
+unfoldable pub size_text : Answer → Text
+size_text a = said (bytes "\n# nodes, depth ") a.nodes ⧺ said (bytes "#. ") a.depth
 
 -- the canonical text, which is not cut, or that there is none
-unfoldable pub canonicalLines : Printing → Text
-canonicalLines (written t) = said (bytes "Canonical text, # bytes:\n\n") (length t) ⧺ shown t ⧺ said (bytes "\n") 0
-canonicalLines (unprinted refusal place) = said (bytes "No canonical text (#): it would have more than 8192 bytes.\n") refusal
+unfoldable pub canonical_lines : Printing → Text
+canonical_lines (written t) = said (bytes "Canonical text, # bytes:\n\n") (length t) ⧺ shown t ⧺ said (bytes "\n") 0
+canonical_lines (unprinted refusal place) = said (bytes "No canonical text (#): it would have more than 8192 bytes.\n") refusal
 
-unfoldable pub policyText : Text → Words → Answer → Counted → Text
-policyText x ws a k = formText k.form ⧺ listsLines x ws k ⧺ sizeText a ⧺ canonicalLines (findPrint stringByte k ws x maxText)
+unfoldable pub policy_text : Text → Words → Answer → Counted → Text
+policy_text x ws a k = form_text k.form ⧺ lists_lines x ws k ⧺ size_text a ⧺ canonical_lines (find_print string_byte k ws x max_text)

@@ -2,7 +2,7 @@
 use Rattle.std.specs.Prelude.{ℕ, zero, suc, ◌+◌, ◌-◌, Bool, cond, [], ◌∷◌, length, get_or, take, drop, replicate, ltb, eqb}
 use Rattle.std.proofs.Math.Seq.{slice}
 use Rattle.cel_text.specs.Byte.{Text, ◌⧺◌, bytes}
-use Rattle.page.specs.Page.{shownByte, shown, said}
+use Rattle.page.specs.Page.{shown_byte, shown, said}
 use Rattle.report.specs.declared.window.Side.{Side}
 use Rattle.report.specs.declared.window.Spot.{Spot}
 
@@ -11,37 +11,37 @@ abbrev side : (at columns : ℕ) → Side
 side at columns = record { at = at; columns = columns }
 
 -- from a place back, as far as the room goes: columns are taken already
-abbrev pub backFrom : Text → (room at columns : ℕ) → Side
-backFrom x room zero columns = side 0 columns
-backFrom x room (suc at) columns =
-    cond (ltb (room - columns) (length (shownByte (get_or x at 0)))) (side (suc at) columns)
-    (backFrom x room at (columns + length (shownByte (get_or x at 0))))
+abbrev pub back_from : Text → (room at columns : ℕ) → Side
+back_from x room zero columns = side 0 columns
+back_from x room (suc at) columns =
+    cond (ltb (room - columns) (length (shown_byte (get_or x at 0)))) (side (suc at) columns)
+    (back_from x room at (columns + length (shown_byte (get_or x at 0))))
 
 -- from a place forth, over the bytes that stand there
-abbrev pub forthFrom : Text → (room at columns : ℕ) → Side
-forthFrom [] room at columns = side at columns
-forthFrom (b ∷ bs) room at columns =
-    cond (ltb (room - columns) (length (shownByte b))) (side at columns) (forthFrom bs room (suc at) (columns + length (shownByte b)))
+abbrev pub forth_from : Text → (room at columns : ℕ) → Side
+forth_from [] room at columns = side at columns
+forth_from (b ∷ bs) room at columns =
+    cond (ltb (room - columns) (length (shown_byte b))) (side at columns) (forth_from bs room (suc at) (columns + length (shown_byte b)))
 
 unfoldable pub back : Text → (place room : ℕ) → Side
-back x place room = backFrom x room place 0
+back x place room = back_from x room place 0
 
 unfoldable pub forth : Text → (place room : ℕ) → Side
-forth x place room = forthFrom (drop place x) room place 0
+forth x place room = forth_from (drop place x) room place 0
 
 -- the mark that the text begins earlier, or a margin; and the mark that it goes on
-unfoldable pub marginText : (from : ℕ) → Text
-marginText from = cond (eqb from 0) (said (bytes "\n    ") 0) (said (bytes "\n... ") 0)
+unfoldable pub margin_text : (from : ℕ) → Text
+margin_text from = cond (eqb from 0) (said (bytes "\n    ") 0) (said (bytes "\n... ") 0)
 
-unfoldable pub endText : (more : Bool) → Text
-endText more = cond more (said (bytes " ...\n") 0) (said (bytes "\n") 0)
+unfoldable pub end_text : (more : Bool) → Text
+end_text more = cond more (said (bytes " ...\n") 0) (said (bytes "\n") 0)
 
 -- the text from one side to the other, and the caret's line up to what is said of the place
-unfoldable pub betweenText : Text → (first last : Side) → Text
-betweenText x first last =
-    marginText first.at
+unfoldable pub between_text : Text → (first last : Side) → Text
+between_text x first last =
+    margin_text first.at
     ⧺ shown (slice first.at last.at x)
-    ⧺ endText (ltb last.at (length x))
+    ⧺ end_text (ltb last.at (length x))
     ⧺ replicate (4 + first.columns) 32
     ⧺ said (bytes "^ ") 0
 
@@ -49,32 +49,32 @@ betweenText x first last =
 unfoldable pub last_of : Text → (place : ℕ) → Side
 last_of x place = forth x place (72 - (back x place 36).columns)
 
-unfoldable pub caretText : Text → (place : ℕ) → Text
-caretText x place = betweenText x (back x place (72 - (last_of x place).columns)) (last_of x place)
+unfoldable pub caret_text : Text → (place : ℕ) → Text
+caret_text x place = between_text x (back x place (72 - (last_of x place).columns)) (last_of x place)
 
 -- the line and column after a byte
-abbrev pub afterByte : Spot → (b : ℕ) → Spot
-afterByte s b = cond (eqb b 10) (record { line = s.line + 1; column = 1 }) (record { line = s.line; column = s.column + 1 })
+abbrev pub after_byte : Spot → (b : ℕ) → Spot
+after_byte s b = cond (eqb b 10) (record { line = s.line + 1; column = 1 }) (record { line = s.line; column = s.column + 1 })
 
-abbrev pub afterBytes : Spot → Text → Spot
-afterBytes s [] = s
-afterBytes s (b ∷ bs) = afterBytes (afterByte s b) bs
+abbrev pub after_bytes : Spot → Text → Spot
+after_bytes s [] = s
+after_bytes s (b ∷ bs) = after_bytes (after_byte s b) bs
 
 -- line and column of a place, both counted from 1
 unfoldable pub spot_of : Text → (place : ℕ) → Spot
-spot_of x place = afterBytes (record { line = 1; column = 1 }) (take place x)
+spot_of x place = after_bytes (record { line = 1; column = 1 }) (take place x)
 
 -- a line for the line and column of a place that is not in the first line
-unfoldable pub spotText : Spot → Text
-spotText s = cond (eqb s.line 1) [] (said (bytes "    Line #, column ") s.line ⧺ said (bytes "#.\n") s.column)
+unfoldable pub spot_text : Spot → Text
+spot_text s = cond (eqb s.line 1) [] (said (bytes "    Line #, column ") s.line ⧺ said (bytes "#.\n") s.column)
 
-unfoldable pub placeText : Text → (place : ℕ) → Text
-placeText x place = said (bytes "byte #\n") place ⧺ spotText (spot_of x place)
+unfoldable pub place_text : Text → (place : ℕ) → Text
+place_text x place = said (bytes "byte #\n") place ⧺ spot_text (spot_of x place)
 
 -- the part around a byte
-unfoldable pub bytePlaceText : Text → (place : ℕ) → Text
-bytePlaceText x place = caretText x place ⧺ placeText x place
+unfoldable pub byte_place_text : Text → (place : ℕ) → Text
+byte_place_text x place = caret_text x place ⧺ place_text x place
 
 -- the part around a node, whose text starts at the place
-unfoldable pub nodePlaceText : Text → (node place : ℕ) → Text
-nodePlaceText x node place = caretText x place ⧺ said (bytes "node #, ") node ⧺ placeText x place
+unfoldable pub node_place_text : Text → (node place : ℕ) → Text
+node_place_text x node place = caret_text x place ⧺ said (bytes "node #, ") node ⧺ place_text x place

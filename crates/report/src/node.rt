@@ -2,8 +2,8 @@
 // where it has none.
 ghost use Rattle.std.specs.Prelude.{◌≡◌, ◌≤◌, ◌-◌, cond, length, eqb};
 ghost use Rattle.cel_text.specs.Tree.{array};
-ghost use Rattle.cel_text.specs.Table.{kindNumber};
-ghost use Rattle.report.specs.Node.{kind_at, arraysBefore, bracketAt, start_of};
+ghost use Rattle.cel_text.specs.Table.{kind_number};
+ghost use Rattle.report.specs.Node.{kind_at, arrays_before, bracket_at, start_of};
 
 use crate::window;
 use parser::row::read_row;
@@ -18,7 +18,7 @@ pub(crate) fn kind(table: &[u32], node: Node) -> u32
 }
 
 fn count_array(table: &[u32], node: Node) -> usize
-    ensures value { result ≡ cond (eqb (kind_at table.now node.0) (kindNumber array)) 1 0 }
+    ensures value { result ≡ cond (eqb (kind_at table.now node.0) (kind_number array)) 1 0 }
     ensures upper_bound { result ≤ 1 }
 {
     if kind(table, node) == parser::ARRAY {
@@ -29,7 +29,7 @@ fn count_array(table: &[u32], node: Node) -> usize
 
 // How many arrays stand before a node.
 fn arrays_before(table: &[u32], node: Node) -> usize
-    ensures { result ≡ arraysBefore table.now node.0 }
+    ensures { result ≡ arrays_before table.now node.0 }
 {
     let end = node.0;
     let mut count = 0;
@@ -44,7 +44,7 @@ fn arrays_before(table: &[u32], node: Node) -> usize
 // The bracket that so many stand before. Up to the end of the first value a `[` opens an array wherever it stands, and arrays are
 // numbered in the order of their openers: so this is where the array opens that so many arrays stand before.
 fn bracket(text: &[u8], before: usize) -> Place
-    ensures result_value { result.0 ≡ bracketAt text.now before }
+    ensures result_value { result.0 ≡ bracket_at text.now before }
     ensures result_in_bounds { result.0 ≤ length text.now }
 {
     let mut left = before;

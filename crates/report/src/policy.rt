@@ -1,15 +1,15 @@
 // An accepted text in words: its form, its lists, its nodes and depth, and its canonical text.
 ghost use Rattle.std.specs.Prelude.{◌≡◌, ◌≤◌, ◌<◌, ◌+◌, ◌*◌, ◌^◌, cond, ◌++◌, get_or, take, eqb};
-ghost use Rattle.cel_text.specs.Byte.{bytes, stringByte};
-ghost use Rattle.cel_text.specs.Answer.{maxText};
+ghost use Rattle.cel_text.specs.Byte.{bytes, string_byte};
+ghost use Rattle.cel_text.specs.Answer.{max_text};
 ghost use Rattle.cel_policy.specs.Policy.{numbers, exclusions};
-ghost use Rattle.cel_policy.specs.Spans.{spansAt};
-ghost use Rattle.cel_policy.specs.Answers.{findPrint};
+ghost use Rattle.cel_policy.specs.Spans.{spans_at};
+ghost use Rattle.cel_policy.specs.Answers.{find_print};
 ghost use Rattle.parser.specs.Found.{told};
 ghost use Rattle.pieces.specs.Pieces.{Wrote};
 ghost use Rattle.page.specs.Page.{shown, said};
-ghost use Rattle.report.specs.Policy.{formText, stringText, stringsText, titleText, listLines, requestLines, listsLines, sizeText};
-ghost use Rattle.report.specs.Policy.{canonicalLines, policyText};
+ghost use Rattle.report.specs.Policy.{form_text, string_text, strings_text, title_text, list_lines, request_lines, lists_lines, size_text};
+ghost use Rattle.report.specs.Policy.{canonical_lines, policy_text};
 
 use crate::words::{put_message, put_part};
 use cel_policy::Policy;
@@ -29,7 +29,7 @@ const RESPONSE_INCLUSIONS: u32 = 2;
 const RESPONSE_EXCLUSIONS: u32 = 3;
 
 fn put_form(out: &mut [u8], at: usize, form: u32) -> usize
-    ensures { Wrote out.old out.new at result (formText form) }
+    ensures { Wrote out.old out.new at result (form_text form) }
 {
     let forms = b"|Accepted: Skip. Nothing is certified.\n\
           |Accepted: ResponseOnly. The response is certified, the request is not.\n\
@@ -39,7 +39,7 @@ fn put_form(out: &mut [u8], at: usize, form: u32) -> usize
 
 // A string in double quotes, on a line of its own; a long one is cut, and its length said.
 fn put_string(out: &mut [u8], at: usize, text: &[u8], from: u32, to: u32) -> usize
-    ensures { Wrote out.old out.new at result (stringText text.now from to) }
+    ensures { Wrote out.old out.new at result (string_text text.now from to) }
 {
     let first = from as usize;
     let last = to as usize;
@@ -72,7 +72,7 @@ fn put_strings(
     count: usize,
 ) -> usize
     requires { first + count < 2 ^ 40 }
-    ensures { Wrote out.old out.new at result (stringsText text.now (spansAt spans.now count first)) }
+    ensures { Wrote out.old out.new at result (strings_text text.now (spans_at spans.now count first)) }
 {
     let mut end = at;
     let mut i = 0;
@@ -98,7 +98,7 @@ fn title(list: u32, count: usize) -> u32
 
 fn put_title(out: &mut [u8], at: usize, list: u32, count: usize) -> usize
     requires { list ≤ 3 }
-    ensures { Wrote out.old out.new at result (titleText list count) }
+    ensures { Wrote out.old out.new at result (title_text list count) }
 {
     let titles = b"    Certified request headers: none, the list is empty.\n\
           |    Certified request headers (#):\n\
@@ -122,7 +122,7 @@ fn put_list(
     count: usize,
 ) -> usize
     requires { (list ≤ 3) × (first + count < 2 ^ 40) }
-    ensures { Wrote out.old out.new at result (listLines text.now spans.now list first count) }
+    ensures { Wrote out.old out.new at result (list_lines text.now spans.now list first count) }
 {
     let end = put_title(out, at, list, count);
     put_strings(out, end, text, spans, first, count)
@@ -130,7 +130,7 @@ fn put_list(
 
 // The lists of the request, which only Full has.
 fn put_request(out: &mut [u8], at: usize, policy: Policy, text: &[u8], spans: &[u32]) -> usize
-    ensures { Wrote out.old out.new at result (requestLines text.now spans.now (numbers policy)) }
+    ensures { Wrote out.old out.new at result (request_lines text.now spans.now (numbers policy)) }
 {
     if policy.form != cel_policy::FULL {
         return at;
@@ -154,7 +154,7 @@ fn response_list(kind: u32) -> u32
 
 // The lists, one after the other in the span table; Skip has none.
 fn put_lists(out: &mut [u8], at: usize, policy: Policy, text: &[u8], spans: &[u32]) -> usize
-    ensures { Wrote out.old out.new at result (listsLines text.now spans.now (numbers policy)) }
+    ensures { Wrote out.old out.new at result (lists_lines text.now spans.now (numbers policy)) }
 {
     if policy.form == cel_policy::SKIP {
         return at;
@@ -168,7 +168,7 @@ fn put_lists(out: &mut [u8], at: usize, policy: Policy, text: &[u8], spans: &[u3
 }
 
 fn put_size(out: &mut [u8], at: usize, answer: Answer) -> usize
-    ensures { Wrote out.old out.new at result (sizeText (told answer)) }
+    ensures { Wrote out.old out.new at result (size_text (told answer)) }
 {
     let end = say(out, at, b"\n# nodes, depth ", answer.nodes as usize);
     say(out, end, b"#. ", answer.depth as usize)
@@ -185,7 +185,7 @@ fn put_printed(out: &mut [u8], at: usize, printed: &[u8], length: usize) -> usiz
 
 // The canonical text, or that there is none.
 fn put_canonical(out: &mut [u8], at: usize, policy: Policy, text: &[u8], spans: &[u32]) -> usize
-    ensures { Wrote out.old out.new at result (canonicalLines (findPrint stringByte (numbers policy) spans.now text.now maxText)) }
+    ensures { Wrote out.old out.new at result (canonical_lines (find_print string_byte (numbers policy) spans.now text.now max_text)) }
 {
     let mut printed = [0u8; MAX_TEXT];
     let print = create_cel_expr::print_policy(policy, text, spans, &mut printed);
@@ -208,7 +208,7 @@ pub(crate) fn put_policy(
     text: &[u8],
     spans: &[u32],
 ) -> usize
-    ensures { Wrote out.old out.new at result (policyText text.now spans.now (told answer) (numbers policy)) }
+    ensures { Wrote out.old out.new at result (policy_text text.now spans.now (told answer) (numbers policy)) }
 {
     let end = put_form(out, at, policy.form);
     let end = put_lists(out, end, policy, text, spans);

@@ -2,8 +2,8 @@
 ghost use Rattle.std.specs.Prelude.{◌≡◌};
 ghost use Rattle.parser.specs.Found.{told};
 ghost use Rattle.pieces.specs.Pieces.{Wrote};
-ghost use Rattle.report.specs.Refusal.{messageNumber, readingText, insteadText, wrongText, noArgumentText, noPropertyText, choiceText};
-ghost use Rattle.report.specs.Refusal.{owner as ownerOf, mappingText, refusalText};
+ghost use Rattle.report.specs.Refusal.{message_number, reading_text, instead_text, wrong_text, no_argument_text, no_property_text, choice_text};
+ghost use Rattle.report.specs.Refusal.{owner as ownerOf, mapping_text, refusal_text};
 
 use crate::words::{put_expected, put_found, put_message};
 use crate::{node, window};
@@ -18,7 +18,7 @@ const AT_THE_START: u32 = 8;
 
 // The message for one of refusals 1 to 6, at a place of a text of this length.
 fn message(refusal: u32, i: usize, long: usize) -> u32
-    ensures { result ≡ messageNumber refusal i long }
+    ensures { result ≡ message_number refusal i long }
 {
     if refusal != parser::SYNTAX {
         return refusal;
@@ -34,7 +34,7 @@ fn message(refusal: u32, i: usize, long: usize) -> u32
 
 // What refusals 1 to 6 mean.
 fn put_reading(out: &mut [u8], at: usize, refusal: u32, i: usize, long: usize) -> usize
-    ensures { Wrote out.old out.new at result (readingText refusal i long) }
+    ensures { Wrote out.old out.new at result (reading_text refusal i long) }
 {
     let messages = b"|a table that was lent is too short.\n\
           |too long. At most # bytes are allowed; what follows is not read.\n\
@@ -49,7 +49,7 @@ fn put_reading(out: &mut [u8], at: usize, refusal: u32, i: usize, long: usize) -
 
 // What is expected instead.
 fn put_instead(out: &mut [u8], at: usize, kind: u32, name: u32) -> usize
-    ensures { Wrote out.old out.new at result (insteadText kind name) }
+    ensures { Wrote out.old out.new at result (instead_text kind name) }
 {
     let end = put_expected(out, at, kind);
     let end = name::spell(out, end, name);
@@ -66,7 +66,7 @@ fn put_wrong(
     kind: u32,
     name: u32,
 ) -> usize
-    ensures { Wrote out.old out.new at result (wrongText node.0 found way.now kind name) }
+    ensures { Wrote out.old out.new at result (wrong_text node.0 found way.now kind name) }
 {
     let end = say(out, at, b"node # is ", node.0);
     let end = put_found(out, end, found);
@@ -75,7 +75,7 @@ fn put_wrong(
 }
 
 fn put_no_argument(out: &mut [u8], at: usize, name: u32) -> usize
-    ensures { Wrote out.old out.new at result (noArgumentText name) }
+    ensures { Wrote out.old out.new at result (no_argument_text name) }
 {
     let end = say(out, at, b"default_certification has no argument.\n", 0);
     put_instead(out, end, parser::OBJECT, name)
@@ -92,7 +92,7 @@ fn owner(name: u32) -> u32
 }
 
 fn put_no_property(out: &mut [u8], at: usize, name: u32) -> usize
-    ensures { Wrote out.old out.new at result (noPropertyText name) }
+    ensures { Wrote out.old out.new at result (no_property_text name) }
 {
     let end = name::spell(out, at, owner(name));
     let end = say(out, end, b" lacks the property ", 0);
@@ -103,7 +103,7 @@ fn put_no_property(out: &mut [u8], at: usize, name: u32) -> usize
 // What is wrong with two properties of which an object must have exactly one: refusals 11 to 16. A list object without headers counts as
 // absent, so of the lists the headers are spoken of.
 fn put_choice(out: &mut [u8], at: usize, refusal: u32) -> usize
-    ensures { Wrote out.old out.new at result (choiceText refusal) }
+    ensures { Wrote out.old out.new at result (choice_text refusal) }
 {
     let messages =
         b"|both no_certification and certification are given.\nExpected exactly one of them in ValidationArgs.\n\
@@ -117,7 +117,7 @@ fn put_choice(out: &mut [u8], at: usize, refusal: u32) -> usize
 
 // What refusals 7 to 16 mean.
 fn put_mapping(out: &mut [u8], at: usize, answer: Answer, found: u32) -> usize
-    ensures { Wrote out.old out.new at result (mappingText (told answer) found) }
+    ensures { Wrote out.old out.new at result (mapping_text (told answer) found) }
 {
     let refusal = answer.refusal;
     let name = answer.name;
@@ -146,7 +146,7 @@ pub(crate) fn put_refusal(
     text: &[u8],
     table: &[u32],
 ) -> usize
-    ensures { Wrote out.old out.new at result (refusalText text.now table.now (told answer)) }
+    ensures { Wrote out.old out.new at result (refusal_text text.now table.now (told answer)) }
 {
     let end = say(out, at, b"Refused (#): ", answer.refusal as usize);
     let number = answer.place as usize;

@@ -1,8 +1,8 @@
 // The part of a text around a place, on one line, with a caret under the place.
 ghost use Rattle.std.specs.Prelude.{◌≡◌, ◌≤◌, ◌<◌, ◌+◌, ◌^◌, min, length};
 ghost use Rattle.pieces.specs.Pieces.{Wrote};
-ghost use Rattle.report.specs.Window.{back as Back, forth as Forth, marginText, endText, caretText, afterByte, spot_of, spotText, placeText};
-ghost use Rattle.report.specs.Window.{bytePlaceText, nodePlaceText};
+ghost use Rattle.report.specs.Window.{back as Back, forth as Forth, margin_text, end_text, caret_text, after_byte, spot_of, spot_text, place_text};
+ghost use Rattle.report.specs.Window.{byte_place_text, node_place_text};
 
 use crate::words::put_part;
 use page::say;
@@ -80,7 +80,7 @@ fn forth(text: &[u8], place: Place, room: usize) -> Side
 
 // The beginning of the text's line: the margin.
 fn put_margin(out: &mut [u8], at: usize, from: usize) -> usize
-    ensures { Wrote out.old out.new at result (marginText from) }
+    ensures { Wrote out.old out.new at result (margin_text from) }
 {
     if from == 0 {
         return say(out, at, b"\n    ", 0);
@@ -90,7 +90,7 @@ fn put_margin(out: &mut [u8], at: usize, from: usize) -> usize
 
 // The end of the text's line, with a mark where the text goes on.
 fn put_end(out: &mut [u8], at: usize, more: bool) -> usize
-    ensures { Wrote out.old out.new at result (endText more) }
+    ensures { Wrote out.old out.new at result (end_text more) }
 {
     if more {
         return say(out, at, b" ...\n", 0);
@@ -101,7 +101,7 @@ fn put_end(out: &mut [u8], at: usize, more: bool) -> usize
 // The line and column after a byte.
 fn after(spot: Spot, b: u8) -> Spot
     requires { (spot.line + 1 < 2 ^ 64) × (spot.column + 1 < 2 ^ 64) }
-    ensures value { result ≡ afterByte spot b }
+    ensures value { result ≡ after_byte spot b }
     ensures line_bound { (result.line ≤ spot.line + 1) × (result.column ≤ spot.column + 1) }
 {
     if b == b'\n' {
@@ -132,7 +132,7 @@ fn spot_of(text: &[u8], place: Place) -> Spot
 
 // A line for the line and column of a place that is not in the first line.
 fn put_spot(out: &mut [u8], at: usize, spot: Spot) -> usize
-    ensures { Wrote out.old out.new at result (spotText spot) }
+    ensures { Wrote out.old out.new at result (spot_text spot) }
 {
     if spot.line == 1 {
         return at;
@@ -143,7 +143,7 @@ fn put_spot(out: &mut [u8], at: usize, spot: Spot) -> usize
 
 fn put_place(out: &mut [u8], at: usize, text: &[u8], place: Place) -> usize
     requires { place.0 ≤ length text.now }
-    ensures { Wrote out.old out.new at result (placeText text.now place.0) }
+    ensures { Wrote out.old out.new at result (place_text text.now place.0) }
 {
     let end = say(out, at, b"byte #\n", place.0);
     put_spot(out, end, spot_of(text, place))
@@ -152,7 +152,7 @@ fn put_place(out: &mut [u8], at: usize, text: &[u8], place: Place) -> usize
 // The text's line and the beginning of the caret's, up to what is said of the place.
 fn put_caret(out: &mut [u8], at: usize, text: &[u8], place: Place) -> usize
     requires { place.0 ≤ length text.now }
-    ensures { Wrote out.old out.new at result (caretText text.now place.0) }
+    ensures { Wrote out.old out.new at result (caret_text text.now place.0) }
 {
     let near = back(text, place, HALF);
     let last = forth(text, place, WIDE - near.columns);
@@ -167,7 +167,7 @@ fn put_caret(out: &mut [u8], at: usize, text: &[u8], place: Place) -> usize
 // The part around a byte.
 pub(crate) fn put_byte_place(out: &mut [u8], at: usize, text: &[u8], place: Place) -> usize
     requires { place.0 ≤ length text.now }
-    ensures { Wrote out.old out.new at result (bytePlaceText text.now place.0) }
+    ensures { Wrote out.old out.new at result (byte_place_text text.now place.0) }
 {
     let end = put_caret(out, at, text, place);
     put_place(out, end, text, place)
@@ -182,7 +182,7 @@ pub(crate) fn put_node_place(
     place: Place,
 ) -> usize
     requires { place.0 ≤ length text.now }
-    ensures { Wrote out.old out.new at result (nodePlaceText text.now node.0 place.0) }
+    ensures { Wrote out.old out.new at result (node_place_text text.now node.0 place.0) }
 {
     let end = put_caret(out, at, text, place);
     let end = say(out, end, b"node #, ", node.0);

@@ -3,7 +3,7 @@
 ghost use Rattle.std.proofs.Math.Seq.{slice};
 ghost use Rattle.pieces.specs.Pieces.{Wrote};
 ghost use Rattle.page.specs.Page.{shown};
-ghost use Rattle.report.specs.Words.{message, foundText, expectedText};
+ghost use Rattle.report.specs.Words.{message, found_text, expected_text};
 
 use crate::window::within;
 
@@ -18,14 +18,14 @@ pub(crate) fn put_message(out: &mut [u8], at: usize, line: &[u8], number: u32, n
 
 // What a node is.
 pub(crate) fn put_found(out: &mut [u8], at: usize, kind: u32) -> usize
-    ensures { Wrote out.old out.new at result (foundText kind) }
+    ensures { Wrote out.old out.new at result (found_text kind) }
 {
     put_message(out, at, b"|a string|an array|an object|a function", kind, 0)
 }
 
 // What a node should be, up to the name.
 pub(crate) fn put_expected(out: &mut [u8], at: usize, kind: u32) -> usize
-    ensures { Wrote out.old out.new at result (expectedText kind) }
+    ensures { Wrote out.old out.new at result (expected_text kind) }
 {
     let expected = b"|Expected a string in the array for \
           |Expected an array of strings for \

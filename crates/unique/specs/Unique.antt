@@ -6,17 +6,17 @@ use Rattle.std.proofs.Common.{sym, ◌∙◌}
 use contract.Lifetimes.{Lfts}
 use denote.Triple.Clauses.{Lasts, at_exit}
 use borrow.Fn.Kinds.{ParamKind, ResultKind, In, Out, Dens, res_t, ended_of}
-use Rattle.cel_text.specs.Byte.{stringByte}
+use Rattle.cel_text.specs.Byte.{string_byte}
 use Rattle.cel_text.specs.Table.{row_at}
-use Rattle.cel_text.specs.Answer.{refusedAt, treeAnswer, treeTable, treeOver}
+use Rattle.cel_text.specs.Answer.{refused_at, tree_answer, tree_table, tree_over}
 use Rattle.cel_policy.specs.Names.{spelling}
 use Rattle.cel_policy.specs.Policy.{numbers}
-use Rattle.cel_policy.specs.Answers.{policyAnswer, policyNodes, policySpans, policyNodesOver, policySpansOver, anyByte, judgement, printAnswer, printOutput, canonicalAnswer}
-use Rattle.cel_policy.specs.Answers.{canonicalOutput}
+use Rattle.cel_policy.specs.Answers.{policy_answer, policy_nodes, policy_spans, policy_nodes_over, policy_spans_over, any_byte, judgement, print_answer, print_output, canonical_answer}
+use Rattle.cel_policy.specs.Answers.{canonical_output}
 use Rattle.cel_policy.specs.declared.Policy.{Policy}
 use Rattle.pieces.specs.Pieces.{Wrote}
 use Rattle.parser.specs.Found.{told}
-use Rattle.parser.specs.Rows.{rowTold}
+use Rattle.parser.specs.Rows.{row_told}
 use Rattle.parser.specs.Run.{class_of, end_of}
 use Rattle.parser.specs.declared.Answer.{Answer}
 use Rattle.parser.specs.declared.row.Row.{Row}
@@ -27,12 +27,12 @@ use Rattle.parser.proofs.scan.run_of
 use Rattle.parser.proofs.row.clear
 use Rattle.parser.proofs.row.read_row
 use Rattle.pieces.proofs.put as put_piece
-use Rattle.ast_mapping.specs.Spans.{policyTold}
+use Rattle.ast_mapping.specs.Spans.{policy_told}
 use Rattle.ast_mapping.proofs.read_policy
 use Rattle.ast_mapping.proofs.read_over as policy_over
 use Rattle.ast_mapping.proofs.name.spell
-use Rattle.create_cel_expr.specs.Given.{printTold}
-use Rattle.create_cel_expr.specs.Judged.{judgedAs}
+use Rattle.create_cel_expr.specs.Given.{print_told}
+use Rattle.create_cel_expr.specs.Judged.{judged_as}
 use Rattle.create_cel_expr.specs.declared.Printed.{Printed}
 use Rattle.create_cel_expr.specs.declared.Judged.{Judged}
 use Rattle.create_cel_expr.specs.declared.Judged.TheVariants.{Clean, Faulty}
@@ -41,19 +41,19 @@ use Rattle.create_cel_expr.proofs.print_policy
 use Rattle.create_cel_expr.proofs.print_any
 use Rattle.host.proofs.canonicalise
 use Rattle.host.proofs.hilladok_canonicalise
-use Rattle.lines.specs.Fields.{hexCount, hexLeft, readDecimal, numberAfter, partFrom}
+use Rattle.lines.specs.Fields.{hex_count, hex_left, read_decimal, number_after, part_from}
 use Rattle.lines.specs.Input.{nothing}
 use Rattle.lines.specs.Texts.{numeral, numerals, pairs}
 use Rattle.lines.proofs.none
 use Rattle.lines.proofs.next
 use Rattle.lines.proofs.unhex
 use Rattle.lines.proofs.decimal
-use Rattle.lines.proofs.number_after
+use Rattle.lines.proofs.number_after as number_after_fn
 use Rattle.lines.proofs.part_start
 use Rattle.lines.proofs.put_number
 use Rattle.lines.proofs.put_words
 use Rattle.lines.proofs.put_hex
-use Rattle.page.specs.Page.{shownByte, shown, said}
+use Rattle.page.specs.Page.{shown_byte, shown, said}
 use Rattle.page.proofs.columns
 use Rattle.page.proofs.put as put_shown
 use Rattle.page.proofs.put_spaces
@@ -88,7 +88,7 @@ meet e f = e ∙ sym f
 tree-says : (r s : Answer) → told r ≡ told s → r ≡ s
 tree-says r s e = λ i. record { refusal = (e i).refusal; name = (e i).name; kind = (e i).kind; place = (e i).place; nodes = (e i).nodes; depth = (e i).depth }
 
-row-says : (r s : Row) → rowTold r ≡ rowTold s → r ≡ s
+row-says : (r s : Row) → row_told r ≡ row_told s → r ≡ s
 row-says r s e =
     λ i. record {
       kind = (e i).kind;
@@ -104,7 +104,7 @@ row-says r s e =
 -- `parser::read_tree`
 pub read-tree :
     Kept read_tree.Kinds.ps read_tree.Kinds.r read_tree.Reads.Asked read_tree.Reads.Post (λ κs a r v.
-    (told r ≡ treeAnswer (length a.1.0.now) a.0.now) × (v.1.0 ≡ treeTable a.0.now a.1.0.now))
+    (told r ≡ tree_answer (length a.1.0.now) a.0.now) × (v.1.0 ≡ tree_table a.0.now a.1.0.now))
 read-tree =
     record {
       one = λ κs a r s v w e f. (tree-says r s (meet e.0 f.0), λ i. (tt, (meet e.1 f.1 i, tt)));
@@ -113,10 +113,10 @@ read-tree =
     }
 
 -- `parser::read_over`
-pub tree_over :
+pub tree-over :
     Kept tree_reads.Kinds.ps tree_reads.Kinds.r tree_reads.Reads.Asked tree_reads.Reads.Post (λ κs a r v.
-    (told r ≡ treeAnswer (length a.1.0.now) a.0.now) × (v.1.0 ≡ treeOver a.0.now a.1.0.now))
-tree_over =
+    (told r ≡ tree_answer (length a.1.0.now) a.0.now) × (v.1.0 ≡ tree_over a.0.now a.1.0.now))
+tree-over =
     record {
       one = λ κs a r s v w e f. (tree-says r s (meet e.0 f.0), λ i. (tt, (meet e.1 f.1 i, tt)));
       asks = λ κs a. tt;
@@ -125,7 +125,7 @@ tree_over =
 
 -- `parser::too_short`
 pub tree-unread :
-    Kept too_short.Kinds.ps too_short.Kinds.r too_short.Reads.Asked too_short.Reads.Post (λ κs a r v. told r ≡ refusedAt 1 0)
+    Kept too_short.Kinds.ps too_short.Kinds.r too_short.Reads.Asked too_short.Reads.Post (λ κs a r v. told r ≡ refused_at 1 0)
 tree-unread =
     record {
       one = λ κs a r s v w e f. (tree-says r s (meet e f), refl);
@@ -135,7 +135,7 @@ tree-unread =
 
 -- `parser::row::read_row`
 pub read-row :
-    Kept read_row.Kinds.ps read_row.Kinds.r read_row.Reads.Asked read_row.Reads.Post (λ κs a r v. rowTold r ≡ row_at a.0.now a.1.0.0)
+    Kept read_row.Kinds.ps read_row.Kinds.r read_row.Reads.Asked read_row.Reads.Post (λ κs a r v. row_told r ≡ row_at a.0.now a.1.0.0)
 read-row =
     record {
       one = λ κs a r s v w e f. (row-says r s (meet e f), refl);
@@ -183,14 +183,14 @@ put-piece =
 -- ---- reading a policy
 
 policy-says : (r s : Policy) → numbers r ≡ numbers s → r ≡ s
-policy-says r s e = λ i. record { form = (e i).form; kind = (e i).kind; request = (e i).requestHeaders; query = (e i).queryParameters; response = (e i).responseHeaders }
+policy-says r s e = λ i. record { form = (e i).form; kind = (e i).kind; request = (e i).request_headers; query = (e i).query_parameters; response = (e i).response_headers }
 
 -- `ast_mapping::read_policy`
 pub read-policy :
     Kept read_policy.Kinds.ps read_policy.Kinds.r read_policy.Reads.Asked read_policy.Reads.Post (λ κs a r v.
-    (policyTold r ≡ policyAnswer (length a.1.0.now) (length a.1.1.0.now) a.0.now)
-    × ((v.1.0 ≡ policyNodes a.0.now a.1.0.now a.1.1.0.now)
-    × (v.1.1.0 ≡ policySpans a.0.now a.1.0.now a.1.1.0.now)))
+    (policy_told r ≡ policy_answer (length a.1.0.now) (length a.1.1.0.now) a.0.now)
+    × ((v.1.0 ≡ policy_nodes a.0.now a.1.0.now a.1.1.0.now)
+    × (v.1.1.0 ≡ policy_spans a.0.now a.1.0.now a.1.1.0.now)))
 read-policy =
     record {
       one = λ κs a r s v w e f. (
@@ -207,9 +207,9 @@ read-policy =
 -- `ast_mapping::read_over`
 pub policy-over :
     Kept policy_over.Kinds.ps policy_over.Kinds.r policy_over.Reads.Asked policy_over.Reads.Post (λ κs a r v.
-    (policyTold r ≡ policyAnswer (length a.1.0.now) (length a.1.1.0.now) a.0.now)
-    × ((v.1.0 ≡ policyNodesOver a.0.now a.1.0.now a.1.1.0.now)
-    × (v.1.1.0 ≡ policySpansOver a.0.now a.1.0.now a.1.1.0.now)))
+    (policy_told r ≡ policy_answer (length a.1.0.now) (length a.1.1.0.now) a.0.now)
+    × ((v.1.0 ≡ policy_nodes_over a.0.now a.1.0.now a.1.1.0.now)
+    × (v.1.1.0 ≡ policy_spans_over a.0.now a.1.0.now a.1.1.0.now)))
 policy-over =
     record {
       one = λ κs a r s v w e f. (
@@ -236,19 +236,19 @@ spell-name =
 
 -- ---- printing
 
-judged-says : (r s : Judged) → judgedAs r ≡ judgedAs s → r ≡ s
+judged-says : (r s : Judged) → judged_as r ≡ judged_as s → r ≡ s
 judged-says Clean Clean e = refl
 judged-says Clean (Faulty m i) e = cc
 judged-says (Faulty n j) Clean e = cc
 judged-says (Faulty n j) (Faulty m i) e = cc
 
-print-says : (r s : Printed) → printTold r ≡ printTold s → r ≡ s
+print-says : (r s : Printed) → print_told r ≡ print_told s → r ≡ s
 print-says r s e = λ i. record { refusal = (e i).refusal; name = (e i).name; kind = (e i).kind; place = (e i).place; length = (e i).length }
 
 -- `create_cel_expr::judge_policy`
 pub judge-policy :
     Kept judge_policy.Kinds.ps judge_policy.Kinds.r judge_policy.Reads.Asked judge_policy.Reads.Post (λ κs a r v.
-    judgedAs r ≡ judgement stringByte (numbers a.0) a.1.1.0.now a.1.0.now)
+    judged_as r ≡ judgement string_byte (numbers a.0) a.1.1.0.now a.1.0.now)
 judge-policy =
     record {
       one = λ κs a r s v w e f. (judged-says r s (meet e f), refl);
@@ -259,8 +259,8 @@ judge-policy =
 -- `create_cel_expr::print_policy`
 pub print-policy :
     Kept print_policy.Kinds.ps print_policy.Kinds.r print_policy.Reads.Asked print_policy.Reads.Post (λ κs a r v.
-    (printTold r ≡ printAnswer stringByte (numbers a.0) a.1.1.0.now a.1.0.now (length a.1.1.1.0.now))
-    × (v.1.1.1.0 ≡ printOutput stringByte (numbers a.0) a.1.1.0.now a.1.0.now a.1.1.1.0.now))
+    (print_told r ≡ print_answer string_byte (numbers a.0) a.1.1.0.now a.1.0.now (length a.1.1.1.0.now))
+    × (v.1.1.1.0 ≡ print_output string_byte (numbers a.0) a.1.1.0.now a.1.0.now a.1.1.1.0.now))
 print-policy =
     record {
       one = λ κs a r s v w e f. (print-says r s (meet e.0 f.0), λ i. (tt, (tt, (tt, (meet e.1 f.1 i, tt)))));
@@ -271,8 +271,8 @@ print-policy =
 -- `create_cel_expr::print_any`
 pub print-any :
     Kept print_any.Kinds.ps print_any.Kinds.r print_any.Reads.Asked print_any.Reads.Post (λ κs a r v.
-    (printTold r ≡ printAnswer anyByte (numbers a.0) a.1.1.0.now a.1.0.now (length a.1.1.1.0.now))
-    × (v.1.1.1.0 ≡ printOutput anyByte (numbers a.0) a.1.1.0.now a.1.0.now a.1.1.1.0.now))
+    (print_told r ≡ print_answer any_byte (numbers a.0) a.1.1.0.now a.1.0.now (length a.1.1.1.0.now))
+    × (v.1.1.1.0 ≡ print_output any_byte (numbers a.0) a.1.1.0.now a.1.0.now a.1.1.1.0.now))
 print-any =
     record {
       one = λ κs a r s v w e f. (print-says r s (meet e.0 f.0), λ i. (tt, (tt, (tt, (meet e.1 f.1 i, tt)))));
@@ -285,7 +285,7 @@ print-any =
 -- `host::canonicalise`
 pub canonicalise-text :
     Kept canonicalise.Kinds.ps canonicalise.Kinds.r canonicalise.Reads.Asked canonicalise.Reads.Post (λ κs a r v.
-    (r ≡ canonicalAnswer a.0.now (length a.1.0.now)) × (v.1.0 ≡ canonicalOutput a.0.now a.1.0.now))
+    (r ≡ canonical_answer a.0.now (length a.1.0.now)) × (v.1.0 ≡ canonical_output a.0.now a.1.0.now))
 canonicalise-text =
     record {
       one = λ κs a r s v w e f. (meet e.0 f.0, λ i. (tt, (meet e.1 f.1 i, tt)));
@@ -296,7 +296,7 @@ canonicalise-text =
 -- `host::hilladok_canonicalise`
 pub canonicalise-for-c :
     Kept hilladok_canonicalise.Kinds.ps hilladok_canonicalise.Kinds.r hilladok_canonicalise.Reads.Asked hilladok_canonicalise.Reads.Post (λ κs a r v.
-    (r ≡ canonicalAnswer a.0.now (length a.1.0.now)) × (v.1.0 ≡ canonicalOutput a.0.now a.1.0.now))
+    (r ≡ canonical_answer a.0.now (length a.1.0.now)) × (v.1.0 ≡ canonical_output a.0.now a.1.0.now))
 canonicalise-for-c =
     record {
       one = λ κs a r s v w e f. (meet e.0 f.0, λ i. (tt, (meet e.1 f.1 i, tt)));
@@ -324,7 +324,7 @@ next-asks κs a = tt
 -- `lines::unhex`
 pub unhex-field :
     Kept unhex.Kinds.ps unhex.Kinds.r unhex.Reads.Asked unhex.Reads.Post (λ κs a r v.
-    (r ≡ hexCount a.0.now (length a.1.0.now)) × (v.1.0 ≡ hexLeft a.0.now a.1.0.now))
+    (r ≡ hex_count a.0.now (length a.1.0.now)) × (v.1.0 ≡ hex_left a.0.now a.1.0.now))
 unhex-field =
     record {
       one = λ κs a r s v w e f. (meet e.0 f.0, λ i. (tt, (meet e.1.0 f.1.0 i, tt)));
@@ -335,7 +335,7 @@ unhex-field =
 -- `lines::decimal`
 pub decimal-field :
     Kept decimal.Kinds.ps decimal.Kinds.r decimal.Reads.Asked decimal.Reads.Post (λ κs a r v.
-    r ≡ readDecimal a.1.0 a.0.now)
+    r ≡ read_decimal a.1.0 a.0.now)
 decimal-field =
     record {
       one = λ κs a r s v w e f. (meet e.0 f.0, refl);
@@ -345,8 +345,8 @@ decimal-field =
 
 -- `lines::number_after`
 pub number-after :
-    Kept number_after.Kinds.ps number_after.Kinds.r number_after.Reads.Asked number_after.Reads.Post (λ κs a r v.
-    r ≡ numberAfter a.1.1.0 a.0.now a.1.0)
+    Kept number_after_fn.Kinds.ps number_after_fn.Kinds.r number_after_fn.Reads.Asked number_after_fn.Reads.Post (λ κs a r v.
+    r ≡ number_after a.1.1.0 a.0.now a.1.0)
 number-after =
     record {
       one = λ κs a r s v w e f. (meet e.0 f.0, refl);
@@ -357,7 +357,7 @@ number-after =
 -- `lines::part_start`
 pub part-start :
     Kept part_start.Kinds.ps part_start.Kinds.r part_start.Reads.Asked part_start.Reads.Post (λ κs a r v.
-    r ≡ partFrom a.1.1.0 a.1.0 a.0.now 0)
+    r ≡ part_from a.1.1.0 a.1.0 a.0.now 0)
 part-start =
     record {
       one = λ κs a r s v w e f. (meet e.0 f.0, refl);
@@ -401,7 +401,7 @@ put-hex =
 -- `page::columns`
 pub columns_of :
     Kept columns.Kinds.ps columns.Kinds.r columns.Reads.Asked columns.Reads.Post (λ κs a r v.
-    r ≡ length (shownByte a.0))
+    r ≡ length (shown_byte a.0))
 columns_of =
     record {
       one = λ κs a r s v w e f. (meet e f, refl);

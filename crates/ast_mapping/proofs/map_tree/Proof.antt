@@ -4,20 +4,20 @@ use Prim.Native.Nat.{◌≤◌}
 use native.Mathlib.Omega.{arith}
 use lib.ListN.{length}
 use Rattle.cel_policy.specs.Policy.{Span, Policy}
-use Rattle.cel_policy.specs.Printed.{maxResponseOnly}
+use Rattle.cel_policy.specs.Printed.{max_response_only}
 use Rattle.cel_policy.specs.Mapping.{Mapped}
-use Rattle.ast_mapping.specs.View.{nodeAt}
-use Rattle.ast_mapping.specs.Steps.{mappedAs}
-use Rattle.ast_mapping.specs.Spans.{stringsIn, Settled}
+use Rattle.ast_mapping.specs.View.{node_at}
+use Rattle.ast_mapping.specs.Steps.{mapped_as}
+use Rattle.ast_mapping.specs.Spans.{strings_in, Settled}
 use Rattle.ast_mapping.proofs.Policies.{root-small, mapped-few}
 use Rattle.ast_mapping.proofs.map_tree.Statement.{statement}
 use Rattle.ast_mapping.proofs.map_tree.Tie as tie
 
-few : (c : tie.After-map-cel-ast) → length (stringsIn (mappedAs c.before.before.before.before.before.args.nodes.now c.map-cel-ast.result)) ≤ maxResponseOnly
+few : (c : tie.After-map-cel-ast) → length (strings_in (mapped_as c.before.before.before.before.before.args.nodes.now c.map-cel-ast.result)) ≤ max_response_only
 few c =
     let s = c.before.before.before.before.before in
     let w = s.args.nodes.now in
-    mapped-few (nodeAt w s.args.text.now 0) (root-small (s.requires.0 c.before.if1.false)) (mappedAs w c.map-cel-ast.result) c.map-cel-ast.ensures.is
+    mapped-few (node_at w s.args.text.now 0) (root-small (s.requires.0 c.before.if1.false)) (mapped_as w c.map-cel-ast.result) c.map-cel-ast.ensures.is
 
 without-policy-requires : tie.Need-without-policy-requires
 without-policy-requires c κs = tt

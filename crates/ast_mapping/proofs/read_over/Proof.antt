@@ -6,11 +6,11 @@ use native.Mathlib.Omega.{arith}
 use mathlib.Core.List.{◌++◌}
 use lib.ListN.{length, drop}
 use lib.Seq.{length-take-le, length_front}
-use Rattle.cel_text.specs.Table.{holdOver}
-use Rattle.cel_text.specs.Answer.{treeOver}
+use Rattle.cel_text.specs.Table.{hold_over}
+use Rattle.cel_text.specs.Answer.{tree_over}
 use Rattle.cel_policy.specs.Policy.{Counted}
-use Rattle.cel_policy.specs.Spans.{spanWords}
-use Rattle.cel_policy.specs.Answers.{policyNodesOver, policySpansOver}
+use Rattle.cel_policy.specs.Spans.{span_words}
+use Rattle.cel_policy.specs.Answers.{policy_nodes_over, policy_spans_over}
 use Rattle.ast_mapping.proofs.Policies.{lent, ensured-short, root-held, ensured}
 use borrow.Author.Rules.{rules}
 use Rattle.ast_mapping.proofs.read_over.Statement.{statement}
@@ -20,10 +20,10 @@ too-short-requires : tie.Need-too-short-requires
 too-short-requires c κs = tt
 
 returns : tie.Need-returns
-unfolding policyNodesOver policySpansOver
+unfolding policy_nodes_over policy_spans_over
 returns c =
     let a = c.before.before.before.before.before.args in
-    ensured-short holdOver (λ (k : Counted). spanWords) lent a.text.now a.nodes.now a.spans.now c.before.if1.true c.too_short.ensures
+    ensured-short hold_over (λ (k : Counted). span_words) lent a.text.now a.nodes.now a.spans.now c.before.if1.true c.too_short.ensures
 
 read-over-requires : tie.Need-read-over-requires
 read-over-requires c κs = tt
@@ -35,16 +35,16 @@ slice-aggregate-map-tree : tie.Need-slice-aggregate-map-tree
 slice-aggregate-map-tree c =
     let b6 = c.before.before.before.before.before.before in
     let b10 = b6.before.before.before.before in
-    sym (length-take-le spanWords b10.args.spans.now b6.if1.false)
+    sym (length-take-le span_words b10.args.spans.now b6.if1.false)
 
 map-tree-requires : tie.Need-map-tree-requires
-unfolding treeOver
+unfolding tree_over
 map-tree-requires c κs =
     let a = c.before.before.before.before.before.before.before.before.before.before.args in
     let long = c.before.before.before.before.before.before.if1.false in
     let t = c.before.before.before.before.read-over in (
-      root-held holdOver (λ (k : Counted). spanWords) lent a.text.now a.nodes.now a.spans.now long t.result t.new.1.0 t.ensures.0 t.ensures.1,
-      length-take-le spanWords a.spans.now long,
+      root-held hold_over (λ (k : Counted). span_words) lent a.text.now a.nodes.now a.spans.now long t.result t.new.1.0 t.ensures.0 t.ensures.1,
+      length-take-le span_words a.spans.now long,
     )
 
 slice-relend-prefix-clear : tie.Need-slice-relend-prefix-clear
@@ -55,9 +55,9 @@ slice-aggregate-clear c =
     let w = c.before.before.before.before.before.before.before.before.before.before.before.before.before.before.args.spans.now in
     let m = c.before.before.before.map-tree in
     let w' = m.new.1.1.1.0 in
-    let long : length (w' ++ drop spanWords w) ≡ length w = length_front w w' spanWords m.auto.1.1.1.0 in
-    let room : spanWords ≤ length (w' ++ drop spanWords w) = omega (arith, c.before.before.before.before.before.before.before.before.before.before.if1.false) in
-    sym (length-take-le spanWords (w' ++ drop spanWords w) room)
+    let long : length (w' ++ drop span_words w) ≡ length w = length_front w w' span_words m.auto.1.1.1.0 in
+    let room : span_words ≤ length (w' ++ drop span_words w) = omega (arith, c.before.before.before.before.before.before.before.before.before.before.if1.false) in
+    sym (length-take-le span_words (w' ++ drop span_words w) room)
 
 spare-requires : tie.Need-spare-requires
 spare-requires c κs = tt
@@ -72,7 +72,7 @@ same-length-2 : tie.Need-same-length-2
 same-length-2 c = search rules
 
 returns-2 : tie.Need-returns-2
-unfolding policyNodesOver policySpansOver treeOver
+unfolding policy_nodes_over policy_spans_over tree_over
 returns-2 c =
     let b7 = c.before.before.before.before.before.before.before in
     let b12 = b7.before.before.before.before.before in
@@ -82,7 +82,7 @@ returns-2 c =
     let t = b12.read-over in
     let m = b7.map-tree in
     let v = c.before.before.clear in
-    ensured holdOver (λ (k : Counted). spanWords) lent a.text.now a.nodes.now a.spans.now b14.if1.false t.result t.new.1.0
+    ensured hold_over (λ (k : Counted). span_words) lent a.text.now a.nodes.now a.spans.now b14.if1.false t.result t.new.1.0
     t.ensures.0 t.ensures.1 m.result m.new.1.1.1.0 m.ensures m.auto.1.1.1.0 c.before.before.before.spare.result c.before.before.before.spare.ensures
     v.new.0 v.ensures
 

@@ -2,14 +2,14 @@
 use Rattle.std.specs.Prelude.{◌≡◌, refl, ℕ, suc, ◌≤◌, Bool, true, false, length, T, ltb}
 use Rattle.std.proofs.Common.{ap, subst, arith, ltb-false, le-leb, ne_eqb}
 use Rattle.std.proofs.lemmas.Bool.{lt-leb}
-use Rattle.cel_text.specs.Byte.{Text, Run, over, byte, ascii, identByte, stringByte, alphanumeric, lead}
+use Rattle.cel_text.specs.Byte.{Text, Run, over, byte, ascii, ident_byte, string_byte, alphanumeric, lead}
 use Rattle.cel_text.specs.Tree.{Kind, array, object, function, opener, closer}
 use Rattle.cel_text.specs.Abstract.{Ast, str, con, Asts, ε, ◌▪◌∶◌, label, separator, write, write_all, GoodName, GoodKey, Writable, WritableAll}
 use Rattle.cel_text.specs.Laws.Class.{is_true, run-append}
-use Rattle.cel_policy.specs.Policy.{Policy, allStrings}
+use Rattle.cel_policy.specs.Policy.{Policy, all_strings}
 use Rattle.cel_policy.specs.Printed.{Each, printed, Proper}
 use Rattle.cel_policy.specs.Laws.Shape.{Shape, skips, certifies, shape_of}
-use Rattle.cel_policy.specs.Laws.PrintedTree.{skipValue, emptyObject, certifiedValue, printed-skip, printed-certified, writable-empty, writable-skip, writable-certified}
+use Rattle.cel_policy.specs.Laws.PrintedTree.{skip_value, empty_object, certified_value, printed-skip, printed-certified, writable-empty, writable-skip, writable-certified}
 
 -- a set of bytes that has none of 128 or more
 abbrev pub Low : (ℕ → Bool) → Type 0
@@ -28,13 +28,13 @@ unfolding alphanumeric
 high-alphanumeric b h =
     rw (le-leb 48 b (omega arith), lt-leb b 57 (omega arith), le-leb 65 b (omega arith), lt-leb b 90 (omega arith), le-leb 97 b (omega arith), lt-leb b 122 (omega arith))
 
-pub identByte-low : Low identByte
-unfolding identByte
-identByte-low = low identByte (λ b h. rw (high-alphanumeric b h, ne_eqb b 95 (omega arith)))
+pub ident_byte-low : Low ident_byte
+unfolding ident_byte
+ident_byte-low = low ident_byte (λ b h. rw (high-alphanumeric b h, ne_eqb b 95 (omega arith)))
 
-pub stringByte-low : Low stringByte
-unfolding stringByte
-stringByte-low = low stringByte (λ b h. rw (high-alphanumeric b h, ne_eqb b 45 (omega arith)))
+pub string_byte-low : Low string_byte
+unfolding string_byte
+string_byte-low = low string_byte (λ b h. rw (high-alphanumeric b h, ne_eqb b 45 (omega arith)))
 
 run-low : {f : ℕ → Bool} {x : Text} → Low f → Run f x → Run ascii x
 run-low l over = over
@@ -47,13 +47,13 @@ lead-run {f} (byte {b = b} h r) = rw (is_true (f b) h) (ap suc (lead-run r))
 -- the parts of a written text
 ascii-name : (c : Kind) (name : Text) → GoodName c name → Run ascii name
 ascii-name array name g = rw g over
-ascii-name object name g = run-low identByte-low g
-ascii-name function name g = run-low identByte-low g
+ascii-name object name g = run-low ident_byte-low g
+ascii-name function name g = run-low ident_byte-low g
 
 ascii-label : (c : Kind) (k : Text) → GoodKey c k → Run ascii (label c k)
 unfolding ascii
 ascii-label array k g = over
-ascii-label object k g = run-append (run-low identByte-low g) (byte tt over)
+ascii-label object k g = run-append (run-low ident_byte-low g) (byte tt over)
 ascii-label function k g = over
 
 ascii-separator : (more : Asts) → Run ascii (separator more)
@@ -87,10 +87,10 @@ module _ (S : ℕ → Bool) (l : Low S) where
     ascii-all (more ▪ k ∶ a) c w =
         run-append (ascii-all more c w.0) (run-append (ascii-separator more) (run-append (ascii-label c k w.1) (ascii-written a w.2)))
 
-  ascii-shape : {p : Policy Text} → Shape p → Each (Run S) (allStrings p) → Run ascii (printed p)
-  ascii-shape skips e = rw printed-skip (ascii-written skipValue (writable-skip S))
+  ascii-shape : {p : Policy Text} → Shape p → Each (Run S) (all_strings p) → Run ascii (printed p)
+  ascii-shape skips e = rw printed-skip (ascii-written skip_value (writable-skip S))
   ascii-shape (certifies r k h) e =
-      rw (printed-certified r k) (ascii-written (certifiedValue emptyObject r k) (writable-certified S emptyObject r k (writable-empty S) e))
+      rw (printed-certified r k) (ascii-written (certified_value empty_object r k) (writable-certified S empty_object r k (writable-empty S) e))
 
   pub ascii-printed : {p : Policy Text} → Proper S p → Run ascii (printed p)
-  ascii-printed {p} h = ascii-shape (shape_of p h.shape) h.stringBytes
+  ascii-printed {p} h = ascii-shape (shape_of p h.shape) h.string_bytes

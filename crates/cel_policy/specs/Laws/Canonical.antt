@@ -2,29 +2,29 @@
 use Rattle.std.specs.Prelude.{◌≡◌, refl, ℕ, ◌≤◌, Bool, [], ◌++◌, length, take, drop}
 use Rattle.std.proofs.Common.{sym, ap, ◌∙◌, le_refl, arith, append-nil}
 use Rattle.std.proofs.Math.Seq.{take-append_seam}
-use Rattle.cel_text.specs.Byte.{Text, Run, Plain, ascii, stringByte}
-use Rattle.cel_text.specs.Table.{nodeWords}
-use Rattle.cel_text.specs.Answer.{maxText}
-use Rattle.cel_text.specs.Laws.Class.{stringByte-plain}
+use Rattle.cel_text.specs.Byte.{Text, Run, Plain, ascii, string_byte}
+use Rattle.cel_text.specs.Table.{node_words}
+use Rattle.cel_text.specs.Answer.{max_text}
+use Rattle.cel_text.specs.Laws.Class.{string_byte-plain}
 use Rattle.cel_policy.specs.Policy.{Policy, strings}
 use Rattle.cel_policy.specs.Meaning.{ReadAs}
-use Rattle.cel_policy.specs.Spans.{spanWords}
+use Rattle.cel_policy.specs.Spans.{span_words}
 use Rattle.cel_policy.specs.Printed.{printed, Printable}
-use Rattle.cel_policy.specs.Answers.{FoundPolicy, Printing, written, unprinted, sized, output, reprinted, findCanonical, oneNumber, canonicalAnswer, canonicalOutput}
+use Rattle.cel_policy.specs.Answers.{FoundPolicy, Printing, written, unprinted, sized, output, reprinted, find_canonical, one_number, canonical_answer, canonical_output}
 use Rattle.cel_policy.specs.Laws.RoundTrip.{round_trip}
 use Rattle.cel_policy.specs.Laws.Readable.{readable, readable-proper}
 use Rattle.cel_policy.specs.Laws.SpanTable.{print-read, refused-written, sized-written}
-use Rattle.cel_policy.specs.Laws.Refusals.{findPolicy-cases}
-use Rattle.cel_policy.specs.Laws.Ascii.{Low, stringByte-low, ascii-printed}
+use Rattle.cel_policy.specs.Laws.Refusals.{find_policy-cases}
+use Rattle.cel_policy.specs.Laws.Ascii.{Low, string_byte-low, ascii-printed}
 use Rattle.cel_policy.specs.Laws.Entries.{find-read, sized-fits}
 
 -- a text that is read as a policy, within the limits, canonicalises to that policy's text
 pub canonical-read :
     (S : ℕ → Bool) {x : Text} {p : Policy Text} {q n d : ℕ}
-    → ReadAs S x p q n d → length x ≤ maxText → Run ascii x → (r : ℕ) → findCanonical S x r ≡ sized (printed p) r
-unfolding findCanonical
+    → ReadAs S x p q n d → length x ≤ max_text → Run ascii x → (r : ℕ) → find_canonical S x r ≡ sized (printed p) r
+unfolding find_canonical
 canonical-read S {x} {q} r short low room =
-    rw (find-read S r short low nodeWords spanWords (le_refl nodeWords) (le_refl spanWords))
+    rw (find-read S r short low node_words span_words (le_refl node_words) (le_refl span_words))
     (print-read S x r.places (readable S x r.tree q r.places r.reads r.maps) _ room
     ∙ ap (λ (u : Policy Text). sized (printed u) room) r.same)
 
@@ -34,10 +34,10 @@ record Writes (S : ℕ → Bool) (t : Text) : Type 0 where
   printable : Printable S policy
   text : t ≡ printed policy
 
-canonical-writes : (S : ℕ → Bool) (x : Text) (r : ℕ) (t : Text) → findCanonical S x r ≡ written t → Writes S t
-unfolding findCanonical
+canonical-writes : (S : ℕ → Bool) (x : Text) (r : ℕ) (t : Text) → find_canonical S x r ≡ written t → Writes S t
+unfolding find_canonical
 canonical-writes S x r t =
-    findPolicy-cases S nodeWords spanWords x (λ (f : FoundPolicy). reprinted S f x r ≡ written t → Writes S t)
+    find_policy-cases S node_words span_words x (λ (f : FoundPolicy). reprinted S f x r ≡ written t → Writes S t)
     (λ a. refused) refused (λ p. refused) (λ f p. refused) (λ u n m. refused)
     (λ u q p e m w.
     let h = readable S x u q p e m in
@@ -49,35 +49,35 @@ canonical-writes S x r t =
 
 -- what was written canonicalises to itself, wherever there is room for it
 pub canonical-again :
-    (S : ℕ → Bool) → Plain S → Low S → (x : Text) (r : ℕ) (t : Text) → findCanonical S x r ≡ written t
-    → (r' : ℕ) → length t ≤ r' → findCanonical S t r' ≡ written t
+    (S : ℕ → Bool) → Plain S → Low S → (x : Text) (r : ℕ) (t : Text) → find_canonical S x r ≡ written t
+    → (r' : ℕ) → length t ≤ r' → find_canonical S t r' ≡ written t
 canonical-again S plain low x r t e r' room =
     let w = canonical-writes S x r t e in
     let p : Policy Text = w.policy in
-    let back : findCanonical S (printed p) r' ≡ sized (printed p) r'
+    let back : find_canonical S (printed p) r' ≡ sized (printed p) r'
     = canonical-read S (rw append-nil at (round_trip S plain p w.printable.proper [])) w.printable.short (ascii-printed S low w.printable.proper) r' in
     rw w.text (back ∙ sized-fits (printed p) r' w.printable.short (rw (sym w.text) room))
 
 -- ---- the entry itself
 
 -- what canonicalise has written to the output
-abbrev pub canonicalText : Text → (out : Text) → Text
-canonicalText x out = take (canonicalAnswer x (length out)) (canonicalOutput x out)
+abbrev pub canonical_text : Text → (out : Text) → Text
+canonical_text x out = take (canonical_answer x (length out)) (canonical_output x out)
 
 -- it answered a length: then its text, in an output with room for it, gives that length and that text again
 pub canonical-idempotent :
-    (x out : Text) → canonicalAnswer x (length out) ≤ maxText → (out' : Text) → canonicalAnswer x (length out) ≤ length out'
-    → (canonicalAnswer (canonicalText x out) (length out') ≡ canonicalAnswer x (length out))
-    × (canonicalOutput (canonicalText x out) out' ≡ canonicalText x out ++ drop (canonicalAnswer x (length out)) out')
-unfolding canonicalAnswer canonicalOutput
-canonical-idempotent x out answered out' = at (findCanonical stringByte x (length out)) refl answered
+    (x out : Text) → canonical_answer x (length out) ≤ max_text → (out' : Text) → canonical_answer x (length out) ≤ length out'
+    → (canonical_answer (canonical_text x out) (length out') ≡ canonical_answer x (length out))
+    × (canonical_output (canonical_text x out) out' ≡ canonical_text x out ++ drop (canonical_answer x (length out)) out')
+unfolding canonical_answer canonical_output
+canonical-idempotent x out answered out' = at (find_canonical string_byte x (length out)) refl answered
   where
     Again : Printing → Type 0
     Again w =
-        (oneNumber (findCanonical stringByte (take (oneNumber w) (output w out)) (length out')) ≡ oneNumber w)
-        × (output (findCanonical stringByte (take (oneNumber w) (output w out)) (length out')) out' ≡ take (oneNumber w) (output w out) ++ drop (oneNumber w) out')
+        (one_number (find_canonical string_byte (take (one_number w) (output w out)) (length out')) ≡ one_number w)
+        × (output (find_canonical string_byte (take (one_number w) (output w out)) (length out')) out' ≡ take (one_number w) (output w out) ++ drop (one_number w) out')
 
-    at : (w : Printing) → findCanonical stringByte x (length out) ≡ w → oneNumber w ≤ maxText → oneNumber w ≤ length out' → Again w
+    at : (w : Printing) → find_canonical string_byte x (length out) ≡ w → one_number w ≤ max_text → one_number w ≤ length out' → Again w
     at (written t) e short room =
-        rw (take-append_seam t (drop (length t) out), canonical-again stringByte stringByte-plain stringByte-low x (length out) t e (length out') room) (refl, refl)
+        rw (take-append_seam t (drop (length t) out), canonical-again string_byte string_byte-plain string_byte-low x (length out) t e (length out') room) (refl, refl)
     at (unprinted r p) e short room = absurd (omega arith)

@@ -9,16 +9,16 @@ use Rattle.std.proofs.Math.Option.{Option, none, some}
 use Rattle.std.proofs.Math.ListN.{length-append}
 use Rattle.std.proofs.Math.Dec.{lit≤}
 use Rattle.cel_text.specs.Byte.{Text}
-use Rattle.cel_text.specs.Tree.{Kind, array, object, function, Tree, string, container, Trees, ∅, ◌▸◌∶◌, nodes, nodesAll}
-use Rattle.cel_text.specs.Table.{kindNumber}
-use Rattle.cel_text.specs.Reading.{maxNodes}
+use Rattle.cel_text.specs.Tree.{Kind, array, object, function, Tree, string, container, Trees, ∅, ◌▸◌∶◌, nodes, nodes_all}
+use Rattle.cel_text.specs.Table.{kind_number}
+use Rattle.cel_text.specs.Reading.{max_nodes}
 use Rattle.cel_text.specs.Laws.Class.{by-test, both_true}
 use Rattle.cel_policy.specs.Names.{same, spelling, no-certification, certification, no-request-certification, request-certification, certified-request-headers, certified-query-parameters}
 use Rattle.cel_policy.specs.Names.{response-certification, certified-response-headers, response-header-exclusions, headers}
 use Rattle.cel_policy.specs.Policy.{Policy}
-use Rattle.cel_policy.specs.Mapping.{Node, leaf, branch, Nodes, childless, ◌▹◌∶◌, node_of, nodesOf, Mapped, good, bad, and_then, Typed, Request, Only, first, second, exactlyOne, typed, lookup}
-use Rattle.cel_policy.specs.Mapping.{present, element, elements, stringArray, first_of, firstChild, headersOf, list_of, responseLists, responsePart, listAt, requestLists, requestOf}
-use Rattle.cel_policy.specs.Mapping.{requestPart, listed, certified, certificationParts, certificationOf, validationArgs, mapping}
+use Rattle.cel_policy.specs.Mapping.{Node, leaf, branch, Nodes, childless, ◌▹◌∶◌, node_of, nodes_of, Mapped, good, bad, and_then, Typed, Request, Only, first, second, exactly_one, typed, lookup}
+use Rattle.cel_policy.specs.Mapping.{present, element, elements, string_array, first_of, first_child, headers_of, list_of, response_lists, response_part, list_at, request_lists, request_of}
+use Rattle.cel_policy.specs.Mapping.{request_part, listed, certified, certification_parts, certification_of, validation_args, mapping}
 use Rattle.cel_policy.specs.Laws.Shape.{Shape, skips, certifies}
 
 -- ---- nodes
@@ -35,22 +35,22 @@ module _ {A : Type 0} where
     sizes (ns ▹ k ∶ n) = sizes ns + size n
 
   -- of a node that may be absent
-  abbrev sizeIf : Option (Node A) → ℕ
-  sizeIf none = 0
-  sizeIf (some n) = size n
+  abbrev size_if : Option (Node A) → ℕ
+  size_if none = 0
+  size_if (some n) = size n
 
   pub size-positive : (n : Node A) → 1 ≤ size n
   size-positive (leaf n a) = lit≤ tt
   size-positive (branch n c name ns) = omega arith
 
 mutual
-  pub size-nodeOf : (x : Text) (t : Tree) (n : ℕ) → size (node_of x t n) ≡ nodes t
-  size-nodeOf x (string o to q) n = refl
-  size-nodeOf x (container c o from to q ts) n = ap suc (sizes-nodesOf x ts (suc n))
+  pub size-node_of : (x : Text) (t : Tree) (n : ℕ) → size (node_of x t n) ≡ nodes t
+  size-node_of x (string o to q) n = refl
+  size-node_of x (container c o from to q ts) n = ap suc (sizes-nodes_of x ts (suc n))
 
-  sizes-nodesOf : (x : Text) (ts : Trees) (n : ℕ) → sizes (nodesOf x ts n) ≡ nodesAll ts
-  sizes-nodesOf x ∅ n = refl
-  sizes-nodesOf x (ts ▸ k ∶ t) n = cc (sizes-nodesOf x ts n, size-nodeOf x t (n + nodesAll ts))
+  sizes-nodes_of : (x : Text) (ts : Trees) (n : ℕ) → sizes (nodes_of x ts n) ≡ nodes_all ts
+  sizes-nodes_of x ∅ n = refl
+  sizes-nodes_of x (ts ▸ k ∶ t) n = cc (sizes-nodes_of x ts n, size-node_of x t (n + nodes_all ts))
 
 -- ---- entries with different keys are different nodes
 
@@ -71,14 +71,14 @@ apart k a b h e = rw (same-equal k (spelling a) e) h
 
 -- three names, each another: the entries that they find have no node in common
 module _ {A : Type 0} (a b c : ℕ) (ab : Apart a b) (ac : Apart a c) (bc : Apart b c) where
-  different : (ns : Nodes A) → sizeIf (lookup a ns) + sizeIf (lookup b ns) + sizeIf (lookup c ns) ≤ sizes ns
+  different : (ns : Nodes A) → size_if (lookup a ns) + size_if (lookup b ns) + size_if (lookup c ns) ≤ sizes ns
   unfolding lookup
   different childless = lit≤ tt
   different (ns ▹ k ∶ n) = at (same k (spelling a)) (same k (spelling b)) (same k (spelling c)) (apart k a b ab) (apart k a c ac) (apart k b c bc) (different ns)
     where
       at : (x y z : Bool) → (x ≡ true → y ≡ false) → (x ≡ true → z ≡ false) → (y ≡ true → z ≡ false)
-          → sizeIf (lookup a ns) + sizeIf (lookup b ns) + sizeIf (lookup c ns) ≤ sizes ns
-          → sizeIf (cond x (some n) (lookup a ns)) + sizeIf (cond y (some n) (lookup b ns)) + sizeIf (cond z (some n) (lookup c ns)) ≤ sizes ns + size n
+          → size_if (lookup a ns) + size_if (lookup b ns) + size_if (lookup c ns) ≤ sizes ns
+          → size_if (cond x (some n) (lookup a ns)) + size_if (cond y (some n) (lookup b ns)) + size_if (cond z (some n) (lookup c ns)) ≤ sizes ns + size n
       at false false false xy xz yz h = omega arith
       at true false false xy xz yz h = omega arith
       at false true false xy xz yz h = omega arith
@@ -109,35 +109,35 @@ meets-weaken : {B : Type 0} {P Q : B → Type 0} (m : Mapped B) → Meets P m �
 meets-weaken (good b) h k = k b h
 meets-weaken (bad r) h k = h
 
-meets-exactlyOne : {B : Type 0} (P : Only B → Type 0) (both neither node : ℕ) (a b : Option B)
+meets-exactly_one : {B : Type 0} (P : Only B → Type 0) (both neither node : ℕ) (a b : Option B)
     → OfMapping both → OfMapping neither
-    → ((u : B) → a ≡ some u → P (first u)) → ((u : B) → b ≡ some u → P (second u)) → Meets P (exactlyOne both neither node a b)
-meets-exactlyOne P both neither node none none hb hn f g = hn
-meets-exactlyOne P both neither node none (some b) hb hn f g = g b refl
-meets-exactlyOne P both neither node (some a) none hb hn f g = f a refl
-meets-exactlyOne P both neither node (some a) (some b) hb hn f g = hb
+    → ((u : B) → a ≡ some u → P (first u)) → ((u : B) → b ≡ some u → P (second u)) → Meets P (exactly_one both neither node a b)
+meets-exactly_one P both neither node none none hb hn f g = hn
+meets-exactly_one P both neither node none (some b) hb hn f g = g b refl
+meets-exactly_one P both neither node (some a) none hb hn f g = f a refl
+meets-exactly_one P both neither node (some a) (some b) hb hn f g = hb
 
-abbrev theOne : {B : Type 0} → Only B → B
-theOne (first b) = b
-theOne (second b) = b
+abbrev the_one : {B : Type 0} → Only B → B
+the_one (first b) = b
+the_one (second b) = b
 
 module _ {A : Type 0} where
   meets-typed : (c : Kind) (name : ℕ) (n : Node A) → Meets (λ (o : Typed A). suc (sizes o.children) ≤ size n) (typed c name n)
   unfolding typed
   meets-typed c name (leaf n a) = between tt tt
   meets-typed c name (branch n d bytes ns) =
-      by-test (Meets _) (eqb (kindNumber d) (kindNumber c)) _ _
+      by-test (Meets _) (eqb (kind_number d) (kind_number c)) _ _
       (λ e. by-test (Meets _) (same bytes (spelling name)) _ _ (λ e'. omega arith) (λ e'. between tt tt))
       (λ e. between tt tt)
 
-  lookup-size : (name : ℕ) (ns : Nodes A) → sizeIf (lookup name ns) ≤ sizes ns
+  lookup-size : (name : ℕ) (ns : Nodes A) → size_if (lookup name ns) ≤ sizes ns
   unfolding lookup
   lookup-size name childless = lit≤ tt
   lookup-size name (ns ▹ k ∶ n) =
-      by-test (λ (o : Option (Node A)). sizeIf o ≤ sizes ns + size n) (same k (spelling name)) (some n) (lookup name ns)
+      by-test (λ (o : Option (Node A)). size_if o ≤ sizes ns + size n) (same k (spelling name)) (some n) (lookup name ns)
       (λ e. omega arith) (λ e. omega (arith, lookup-size name ns))
 
-  meets-present : (name node : ℕ) (o : Option (Node A)) → Meets (λ (n : Node A). size n ≤ sizeIf o) (present name node o)
+  meets-present : (name node : ℕ) (o : Option (Node A)) → Meets (λ (n : Node A). size n ≤ size_if o) (present name node o)
   unfolding present
   meets-present name node none = between tt tt
   meets-present name node (some n) = omega arith
@@ -154,131 +154,131 @@ module _ {A : Type 0} where
       meets-then _ (elements name ns) _ (meets-elements name ns)
       (λ before h. meets-then _ (element name n) _ (meets-element name n) (λ a u. simp length-append (omega arith)))
 
-  meets-stringArray : (name : ℕ) (n : Node A) → Meets (λ (l : List A). suc (length l) ≤ size n) (stringArray name n)
-  unfolding stringArray
-  meets-stringArray name (leaf n a) = between tt tt
-  meets-stringArray name (branch n array bytes ns) = meets-weaken (elements name ns) (meets-elements name ns) (λ l h. omega arith)
-  meets-stringArray name (branch n object bytes ns) = between tt tt
-  meets-stringArray name (branch n function bytes ns) = between tt tt
+  meets-string_array : (name : ℕ) (n : Node A) → Meets (λ (l : List A). suc (length l) ≤ size n) (string_array name n)
+  unfolding string_array
+  meets-string_array name (leaf n a) = between tt tt
+  meets-string_array name (branch n array bytes ns) = meets-weaken (elements name ns) (meets-elements name ns) (λ l h. omega arith)
+  meets-string_array name (branch n object bytes ns) = between tt tt
+  meets-string_array name (branch n function bytes ns) = between tt tt
 
-  firstOf-size : (n : Node A) (ns : Nodes A) → size (first_of n ns) ≤ sizes ns + size n
+  first_of-size : (n : Node A) (ns : Nodes A) → size (first_of n ns) ≤ sizes ns + size n
   unfolding first_of
-  firstOf-size n childless = omega arith
-  firstOf-size n (ns ▹ k ∶ m) = omega (arith, firstOf-size m ns)
+  first_of-size n childless = omega arith
+  first_of-size n (ns ▹ k ∶ m) = omega (arith, first_of-size m ns)
 
-  meets-firstChild : (node : ℕ) (ns : Nodes A) → Meets (λ (n : Node A). size n ≤ sizes ns) (firstChild node ns)
-  unfolding firstChild
-  meets-firstChild node childless = between tt tt
-  meets-firstChild node (ns ▹ k ∶ n) = firstOf-size n ns
+  meets-first_child : (node : ℕ) (ns : Nodes A) → Meets (λ (n : Node A). size n ≤ sizes ns) (first_child node ns)
+  unfolding first_child
+  meets-first_child node childless = between tt tt
+  meets-first_child node (ns ▹ k ∶ n) = first_of-size n ns
 
   -- the nodes that a list needs, with k containers around it, and that a request part needs
-  abbrev listNeeds : ℕ → Option (List A) → ℕ
-  listNeeds k none = 0
-  listNeeds k (some l) = k + length l
+  abbrev list_needs : ℕ → Option (List A) → ℕ
+  list_needs k none = 0
+  list_needs k (some l) = k + length l
 
-  listNeeds-suc : (k s : ℕ) (w : Option (List A)) → listNeeds k w ≤ s → listNeeds (suc k) w ≤ suc s
-  listNeeds-suc k s none h = omega arith
-  listNeeds-suc k s (some l) h = omega arith
+  list_needs-suc : (k s : ℕ) (w : Option (List A)) → list_needs k w ≤ s → list_needs (suc k) w ≤ suc s
+  list_needs-suc k s none h = omega arith
+  list_needs-suc k s (some l) h = omega arith
 
-  abbrev requestNeeds : Option (Request A) → ℕ
-  requestNeeds none = 1
-  requestNeeds (some r) = 3 + length r.requestHeaders + length r.queryParameters
+  abbrev request_needs : Option (Request A) → ℕ
+  request_needs none = 1
+  request_needs (some r) = 3 + length r.request_headers + length r.query_parameters
 
-  meets-headersOf : (name : ℕ) (o : Option (Node A)) → Meets (λ (w : Option (List A)). listNeeds 1 w ≤ sizeIf o) (headersOf name o)
-  unfolding headersOf
-  meets-headersOf name none = lit≤ tt
-  meets-headersOf name (some n) = meets-then _ (stringArray name n) _ (meets-stringArray name n) (λ l h. omega arith)
+  meets-headers_of : (name : ℕ) (o : Option (Node A)) → Meets (λ (w : Option (List A)). list_needs 1 w ≤ size_if o) (headers_of name o)
+  unfolding headers_of
+  meets-headers_of name none = lit≤ tt
+  meets-headers_of name (some n) = meets-then _ (string_array name n) _ (meets-string_array name n) (λ l h. omega arith)
 
-  meets-listOf : (name : ℕ) (o : Option (Node A)) → Meets (λ (w : Option (List A)). listNeeds 2 w ≤ sizeIf o) (list_of name o)
+  meets-list_of : (name : ℕ) (o : Option (Node A)) → Meets (λ (w : Option (List A)). list_needs 2 w ≤ size_if o) (list_of name o)
   unfolding list_of
-  meets-listOf name none = lit≤ tt
-  meets-listOf name (some n) =
+  meets-list_of name none = lit≤ tt
+  meets-list_of name (some n) =
       meets-then _ (typed object _ n) _ (meets-typed object _ n)
-      (λ o h. meets-weaken (headersOf name (lookup headers o.children)) (meets-headersOf name (lookup headers o.children))
-      (λ w u. omega (arith, lookup-size headers o.children, listNeeds-suc 1 _ w u)))
+      (λ o h. meets-weaken (headers_of name (lookup headers o.children)) (meets-headers_of name (lookup headers o.children))
+      (λ w u. omega (arith, lookup-size headers o.children, list_needs-suc 1 _ w u)))
 
-  meets-responseLists : (o : Typed A) → Meets (λ (w : Only (List A)). 2 + length (listed w) ≤ sizes o.children) (responseLists o)
-  unfolding responseLists
-  meets-responseLists o =
+  meets-response_lists : (o : Typed A) → Meets (λ (w : Only (List A)). 2 + length (listed w) ≤ sizes o.children) (response_lists o)
+  unfolding response_lists
+  meets-response_lists o =
       let ns : Nodes A = o.children in
       meets-then _ (list_of certified-response-headers (lookup certified-response-headers ns)) _
-      (meets-listOf certified-response-headers (lookup certified-response-headers ns)) (λ included h.
+      (meets-list_of certified-response-headers (lookup certified-response-headers ns)) (λ included h.
       meets-then _ (list_of response-header-exclusions (lookup response-header-exclusions ns)) _
-      (meets-listOf response-header-exclusions (lookup response-header-exclusions ns)) (λ excluded k.
-      meets-exactlyOne _ 15 16 o.number included excluded (between tt tt) (between tt tt)
+      (meets-list_of response-header-exclusions (lookup response-header-exclusions ns)) (λ excluded k.
+      meets-exactly_one _ 15 16 o.number included excluded (between tt tt) (between tt tt)
       (λ l e. omega (arith, rw e at h, lookup-size certified-response-headers ns))
       (λ l e. omega (arith, rw e at k, lookup-size response-header-exclusions ns))))
 
-  meets-responsePart : (o : Typed A) → Meets (λ (w : Only (List A)). 3 + length (listed w) ≤ sizeIf (lookup response-certification o.children)) (responsePart o)
-  unfolding responsePart
-  meets-responsePart o =
+  meets-response_part : (o : Typed A) → Meets (λ (w : Only (List A)). 3 + length (listed w) ≤ size_if (lookup response-certification o.children)) (response_part o)
+  unfolding response_part
+  meets-response_part o =
       let found : Option (Node A) = lookup response-certification o.children in
       meets-then _ (present response-certification o.number found) _ (meets-present response-certification o.number found) (λ n h.
       meets-then _ (typed object _ n) _ (meets-typed object _ n) (λ u k.
-      meets-weaken (responseLists u) (meets-responseLists u) (λ w j. omega arith)))
+      meets-weaken (response_lists u) (meets-response_lists u) (λ w j. omega arith)))
 
-  meets-listAt : (name : ℕ) (o : Typed A) → Meets (λ (l : List A). suc (length l) ≤ sizeIf (lookup name o.children)) (listAt name o)
-  unfolding listAt
-  meets-listAt name o =
+  meets-list_at : (name : ℕ) (o : Typed A) → Meets (λ (l : List A). suc (length l) ≤ size_if (lookup name o.children)) (list_at name o)
+  unfolding list_at
+  meets-list_at name o =
       meets-then _ (present name o.number (lookup name o.children)) _ (meets-present name o.number (lookup name o.children))
-      (λ n h. meets-weaken (stringArray name n) (meets-stringArray name n) (λ l k. omega arith))
+      (λ n h. meets-weaken (string_array name n) (meets-string_array name n) (λ l k. omega arith))
 
-  meets-requestLists : (o : Typed A) → Meets (λ (r : Option (Request A)). requestNeeds r ≤ suc (sizes o.children)) (requestLists o)
-  unfolding requestLists Apart spelling
-  meets-requestLists o =
-      meets-then _ (listAt certified-request-headers o) _ (meets-listAt certified-request-headers o) (λ hs h.
-      meets-then _ (listAt certified-query-parameters o) _ (meets-listAt certified-query-parameters o) (λ qs k.
+  meets-request_lists : (o : Typed A) → Meets (λ (r : Option (Request A)). request_needs r ≤ suc (sizes o.children)) (request_lists o)
+  unfolding request_lists Apart spelling
+  meets-request_lists o =
+      meets-then _ (list_at certified-request-headers o) _ (meets-list_at certified-request-headers o) (λ hs h.
+      meets-then _ (list_at certified-query-parameters o) _ (meets-list_at certified-query-parameters o) (λ qs k.
       omega (arith, different certified-request-headers certified-query-parameters response-certification refl refl refl o.children)))
 
-  meets-requestOf : (u : Only (Node A)) → Meets (λ (r : Option (Request A)). requestNeeds r ≤ size (theOne u)) (requestOf u)
-  unfolding requestOf
-  meets-requestOf (first n) = size-positive n
-  meets-requestOf (second n) =
-      meets-then _ (typed object _ n) _ (meets-typed object _ n) (λ o h. meets-weaken (requestLists o) (meets-requestLists o) (λ r k. omega arith))
+  meets-request_of : (u : Only (Node A)) → Meets (λ (r : Option (Request A)). request_needs r ≤ size (the_one u)) (request_of u)
+  unfolding request_of
+  meets-request_of (first n) = size-positive n
+  meets-request_of (second n) =
+      meets-then _ (typed object _ n) _ (meets-typed object _ n) (λ o h. meets-weaken (request_lists o) (meets-request_lists o) (λ r k. omega arith))
 
-  meets-requestPart :
+  meets-request_part :
       (o : Typed A)
-      → Meets (λ (r : Option (Request A)). requestNeeds r ≤ sizeIf (lookup no-request-certification o.children) + sizeIf (lookup request-certification o.children)) (requestPart o)
-  unfolding requestPart
-  meets-requestPart o =
+      → Meets (λ (r : Option (Request A)). request_needs r ≤ size_if (lookup no-request-certification o.children) + size_if (lookup request-certification o.children)) (request_part o)
+  unfolding request_part
+  meets-request_part o =
       let a : Option (Node A) = lookup no-request-certification o.children in
       let b : Option (Node A) = lookup request-certification o.children in
-      meets-then {P = λ (u : Only (Node A)). size (theOne u) ≤ sizeIf a + sizeIf b} _ (exactlyOne 13 14 o.number a b) _
-      (meets-exactlyOne _ 13 14 o.number a b (between tt tt) (between tt tt) (λ n e. rw e (omega arith)) (λ n e. rw e (omega arith)))
-      (λ u h. meets-weaken (requestOf u) (meets-requestOf u) (λ r k. omega arith))
+      meets-then {P = λ (u : Only (Node A)). size (the_one u) ≤ size_if a + size_if b} _ (exactly_one 13 14 o.number a b) _
+      (meets-exactly_one _ 13 14 o.number a b (between tt tt) (between tt tt) (λ n e. rw e (omega arith)) (λ n e. rw e (omega arith)))
+      (λ u h. meets-weaken (request_of u) (meets-request_of u) (λ r k. omega arith))
 
   -- 3 containers stand around the two parts
-  shape-within : (r : Option (Request A)) (l : Only (List A)) → requestNeeds r + (3 + length (listed l)) + 3 ≤ maxNodes → Shape (certified r l)
+  shape-within : (r : Option (Request A)) (l : Only (List A)) → request_needs r + (3 + length (listed l)) + 3 ≤ max_nodes → Shape (certified r l)
   shape-within none l h = certifies none l (omega arith)
   shape-within (some r) l h = certifies (some r) l (omega arith)
 
-  meets-certificationParts : (o : Typed A) → Meets (λ (p : Policy A). 3 + sizes o.children ≤ maxNodes → Shape p) (certificationParts o)
-  unfolding certificationParts Apart spelling
-  meets-certificationParts o =
-      meets-then _ (requestPart o) _ (meets-requestPart o) (λ r h.
-      meets-then _ (responsePart o) _ (meets-responsePart o) (λ l k within.
+  meets-certification_parts : (o : Typed A) → Meets (λ (p : Policy A). 3 + sizes o.children ≤ max_nodes → Shape p) (certification_parts o)
+  unfolding certification_parts Apart spelling
+  meets-certification_parts o =
+      meets-then _ (request_part o) _ (meets-request_part o) (λ r h.
+      meets-then _ (response_part o) _ (meets-response_part o) (λ l k within.
       shape-within r l (omega (arith, different no-request-certification request-certification response-certification refl refl refl o.children))))
 
-  meets-certificationOf : (u : Only (Node A)) → Meets (λ (p : Policy A). 2 + size (theOne u) ≤ maxNodes → Shape p) (certificationOf u)
-  unfolding certificationOf
-  meets-certificationOf (first n) = λ within. skips
-  meets-certificationOf (second n) =
+  meets-certification_of : (u : Only (Node A)) → Meets (λ (p : Policy A). 2 + size (the_one u) ≤ max_nodes → Shape p) (certification_of u)
+  unfolding certification_of
+  meets-certification_of (first n) = λ within. skips
+  meets-certification_of (second n) =
       meets-then _ (typed object _ n) _ (meets-typed object _ n)
-      (λ o h. meets-weaken (certificationParts o) (meets-certificationParts o) (λ p k within. k (omega arith)))
+      (λ o h. meets-weaken (certification_parts o) (meets-certification_parts o) (λ p k within. k (omega arith)))
 
-  meets-validationArgs : (o : Typed A) → Meets (λ (p : Policy A). 2 + sizes o.children ≤ maxNodes → Shape p) (validationArgs o)
-  unfolding validationArgs
-  meets-validationArgs o =
+  meets-validation_args : (o : Typed A) → Meets (λ (p : Policy A). 2 + sizes o.children ≤ max_nodes → Shape p) (validation_args o)
+  unfolding validation_args
+  meets-validation_args o =
       let ns : Nodes A = o.children in
-      meets-then {P = λ (u : Only (Node A)). size (theOne u) ≤ sizes ns} _ (exactlyOne 11 12 o.number (lookup no-certification ns) (lookup certification ns)) _
-      (meets-exactlyOne _ 11 12 o.number (lookup no-certification ns) (lookup certification ns) (between tt tt) (between tt tt)
+      meets-then {P = λ (u : Only (Node A)). size (the_one u) ≤ sizes ns} _ (exactly_one 11 12 o.number (lookup no-certification ns) (lookup certification ns)) _
+      (meets-exactly_one _ 11 12 o.number (lookup no-certification ns) (lookup certification ns) (between tt tt) (between tt tt)
       (λ n e. rw e at (lookup-size no-certification ns)) (λ n e. rw e at (lookup-size certification ns)))
-      (λ u h. meets-weaken (certificationOf u) (meets-certificationOf u) (λ p k within. k (omega arith)))
+      (λ u h. meets-weaken (certification_of u) (meets-certification_of u) (λ p k within. k (omega arith)))
 
-  pub meets-mapping : (root : Node A) → Meets (λ (p : Policy A). size root ≤ maxNodes → Shape p) (mapping root)
+  pub meets-mapping : (root : Node A) → Meets (λ (p : Policy A). size root ≤ max_nodes → Shape p) (mapping root)
   unfolding mapping
   meets-mapping root =
       meets-then _ (typed function _ root) _ (meets-typed function _ root) (λ f h.
-      meets-then _ (firstChild f.number f.children) _ (meets-firstChild f.number f.children) (λ argument k.
+      meets-then _ (first_child f.number f.children) _ (meets-first_child f.number f.children) (λ argument k.
       meets-then _ (typed object _ argument) _ (meets-typed object _ argument) (λ o j.
-      meets-weaken (validationArgs o) (meets-validationArgs o) (λ p m within. m (omega arith)))))
+      meets-weaken (validation_args o) (meets-validation_args o) (λ p m within. m (omega arith)))))

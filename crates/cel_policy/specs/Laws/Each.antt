@@ -10,10 +10,10 @@ module _ {A : Type 0} {P : A → Type 0} where
   each-split [] m e = (nothing, e)
   each-split (a ∷ l) m (each h e) = let s = each-split l m e in (each h s.0, s.1)
 
-  pub each-getD : {l : List A} {d : A} → Each P l → P d → (n : ℕ) → P (get_or l n d)
-  each-getD nothing h n = h
-  each-getD (each p e) h zero = p
-  each-getD (each p e) h (suc n) = each-getD e h n
+  pub each-get_d : {l : List A} {d : A} → Each P l → P d → (n : ℕ) → P (get_or l n d)
+  each-get_d nothing h n = h
+  each-get_d (each p e) h zero = p
+  each-get_d (each p e) h (suc n) = each-get_d e h n
 
 pub each_map : {A B : Type 0} {P : A → Type 0} {Q : B → Type 0} (f : A → B) (l : List A) → ((a : A) → P a → Q (f a)) → Each P l → Each Q (map f l)
 each_map f [] h nothing = nothing

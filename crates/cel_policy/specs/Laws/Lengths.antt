@@ -4,15 +4,15 @@ use Rattle.std.proofs.Common.{length-append, arith}
 use Rattle.cel_text.specs.Byte.{Text}
 use Rattle.cel_text.specs.Laws.Class.{same-either-way}
 use Rattle.cel_policy.specs.Policy.{Policy, exclusions}
-use Rattle.cel_policy.specs.Printed.{joined, listText, listKey, skipText, requestText, responseText, responseOnlyText, fullText, printed, total, listLength, printedLength}
+use Rattle.cel_policy.specs.Printed.{joined, list_text, list_key, skip_text, request_text, response_text, response_only_text, full_text, printed, total, list_length, printed_length}
 
 length-joined : (s : Text) (more : List Text) → length (joined s more) ≡ total (s ∷ more) + 3 * length more
 length-joined s [] = omega arith
 length-joined s (t ∷ more) = simp length-append (omega (arith, length-joined t more))
 
-pub length-listText : (ss : List Text) → length (listText ss) ≡ listLength ss
-length-listText [] = refl
-length-listText (s ∷ more) = simp length-append (omega (arith, length-joined s more))
+pub length-list_text : (ss : List Text) → length (list_text ss) ≡ list_length ss
+length-list_text [] = refl
+length-list_text (s ∷ more) = simp length-append (omega (arith, length-joined s more))
 
 -- of two texts, chosen by a test
 length-cond : (b : Bool) (x y : Text) → length (cond b x y) ≡ cond b (length x) (length y)
@@ -20,28 +20,28 @@ length-cond true x y = refl
 length-cond false x y = refl
 
 -- both keys of the response list have 26 bytes
-length-listKey : (kind : ℕ) → length (listKey kind) ≡ 26
-length-listKey kind = rw length-cond (same-either-way (eqb kind exclusions) 26)
+length-list_key : (kind : ℕ) → length (list_key kind) ≡ 26
+length-list_key kind = rw length-cond (same-either-way (eqb kind exclusions) 26)
 
-length-responseText : (p : Policy Text) → length (responseText p) ≡ 103 + listLength p.responseHeaders
-unfolding responseText
-length-responseText p = simp (length-append, length-listKey, length-listText) (omega arith)
+length-response_text : (p : Policy Text) → length (response_text p) ≡ 103 + list_length p.response_headers
+unfolding response_text
+length-response_text p = simp (length-append, length-list_key, length-list_text) (omega arith)
 
-length-requestText : (p : Policy Text) → length (requestText p) ≡ 103 + (listLength p.requestHeaders + listLength p.queryParameters)
-unfolding requestText
-length-requestText p = simp (length-append, length-listText) (omega arith)
+length-request_text : (p : Policy Text) → length (request_text p) ≡ 103 + (list_length p.request_headers + list_length p.query_parameters)
+unfolding request_text
+length-request_text p = simp (length-append, length-list_text) (omega arith)
 
-length-responseOnlyText : (p : Policy Text) → length (responseOnlyText p) ≡ 204 + listLength p.responseHeaders
-unfolding responseOnlyText
-length-responseOnlyText p = simp (length-append, length-responseText) (omega arith)
+length-response_only_text : (p : Policy Text) → length (response_only_text p) ≡ 204 + list_length p.response_headers
+unfolding response_only_text
+length-response_only_text p = simp (length-append, length-response_text) (omega arith)
 
-length-fullText :
+length-full_text :
     (p : Policy Text)
-    → length (fullText p) ≡ 274 + (listLength p.requestHeaders + (listLength p.queryParameters + listLength p.responseHeaders))
-unfolding fullText
-length-fullText p = simp (length-append, length-requestText, length-responseText) (omega arith)
+    → length (full_text p) ≡ 274 + (list_length p.request_headers + (list_length p.query_parameters + list_length p.response_headers))
+unfolding full_text
+length-full_text p = simp (length-append, length-request_text, length-response_text) (omega arith)
 
 -- “The text of Skip has 63 bytes, that of ResponseOnly 204 and its list, that of Full 274 and its three lists.”
-pub length-printed : (p : Policy Text) → length (printed p) ≡ printedLength p
-unfolding printed printedLength skipText
-length-printed p = simp (length-cond, length-responseOnlyText, length-fullText)
+pub length-printed : (p : Policy Text) → length (printed p) ≡ printed_length p
+unfolding printed printed_length skip_text
+length-printed p = simp (length-cond, length-response_only_text, length-full_text)

@@ -5,24 +5,24 @@ use Rattle.std.proofs.Common.{sym, ap, ◌∙◌, arith, length-append}
 use Rattle.std.proofs.lemmas.List.{length-map}
 use Rattle.std.proofs.Math.Seq.{slice}
 use Rattle.cel_text.specs.Byte.{Text, ◌⧺◌, Run, Blanks, quote}
-use Rattle.cel_text.specs.Tree.{Kind, opener, closer, Key, Tree, string, container, Trees, ◌▸◌∶◌, nodesAll}
+use Rattle.cel_text.specs.Tree.{Kind, opener, closer, Key, Tree, string, container, Trees, ◌▸◌∶◌, nodes_all}
 use Rattle.cel_text.specs.Grammar.{Value, a-string, a-container, no-child, one_more}
 use Rattle.cel_text.specs.Reading.{accepted, read, limits}
 use Rattle.cel_text.specs.Laws.Sound.{sound, within}
-use Rattle.cel_policy.specs.Policy.{Span, Policy, allStrings, overStrings, content, strings}
-use Rattle.cel_policy.specs.Mapping.{Node, leaf, branch, Nodes, childless, ◌▹◌∶◌, keyBytes, node_of, nodesOf, good, mapping}
+use Rattle.cel_policy.specs.Policy.{Span, Policy, all_strings, over_strings, content, strings}
+use Rattle.cel_policy.specs.Mapping.{Node, leaf, branch, Nodes, childless, ◌▹◌∶◌, key_bytes, node_of, nodes_of, good, mapping}
 use Rattle.cel_policy.specs.Printed.{Each, nothing, each, Proper}
 use Rattle.cel_policy.specs.Laws.Each.{each_map}
-use Rattle.cel_policy.specs.Laws.Natural.{overNode, overNodes, unmap, allStrings-over, mapping-natural}
+use Rattle.cel_policy.specs.Laws.Natural.{over_node, over_nodes, unmap, all_strings-over, mapping-natural}
 use Rattle.cel_policy.specs.Laws.Places.{Here, here-left, here-right, here-next, here-inside, here-slice}
 use Rattle.cel_policy.specs.Laws.Shape.{Shape, shape-right}
-use Rattle.cel_policy.specs.Laws.Counts.{size-nodeOf, meets-mapping}
+use Rattle.cel_policy.specs.Laws.Counts.{size-node_of, meets-mapping}
 
 -- a span that print accepts: it fits, and its bytes are string bytes
 pub record Fits (S : ℕ → Bool) (x : Text) (s : Span) : Type 0 where
   pub ordered : s.from ≤ s.to
   pub inside : s.to ≤ length x
-  pub stringBytes : Run S (content x s)
+  pub string_bytes : Run S (content x s)
 
 module _ (S : ℕ → Bool) (x : Text) where
   -- a span with a proof that it fits
@@ -34,10 +34,10 @@ module _ (S : ℕ → Bool) (x : Text) where
 
   -- the strings of a value fit, by induction on how the grammar makes it
   abbrev FitValue : ℕ → Text → Tree → Type 0
-  FitValue p v t = Here x p v → (n : ℕ) → (g : Node FitSpan) × (overNode span g ≡ node_of x t n)
+  FitValue p v t = Here x p v → (n : ℕ) → (g : Node FitSpan) × (over_node span g ≡ node_of x t n)
 
   abbrev FitChildren : ℕ → Text → Trees → Type 0
-  FitChildren p vs ts = Here x p vs → (n : ℕ) → (g : Nodes FitSpan) × (overNodes span g ≡ nodesOf x ts n)
+  FitChildren p vs ts = Here x p vs → (n : ℕ) → (g : Nodes FitSpan) × (over_nodes span g ≡ nodes_of x ts n)
 
   fit-string : (p : ℕ) {b i c : Text} → Blanks b → Run S i → Blanks c
       → FitValue p (b ⧺ (quote ∷ i) ⧺ c ⧺ quote ∷ []) (string (p + length b) (suc (p + length b) + length i) (suc (suc (p + length b) + length i + length c)))
@@ -49,7 +49,7 @@ module _ (S : ℕ → Bool) (x : Text) where
       record {
         ordered = omega arith;
         inside = here-inside i (c ⧺ quote ∷ []) here (simp length-append (omega arith));
-        stringBytes = rw (here-slice i (here-left i (c ⧺ quote ∷ []) here)) is;
+        string_bytes = rw (here-slice i (here-left i (c ⧺ quote ∷ []) here)) is;
       } in
       (leaf n (s, fits), refl)
 
@@ -65,8 +65,8 @@ module _ (S : ℕ → Bool) (x : Text) where
       → FitChildren p vs ts → FitValue (p + length vs + length s + length l) v t → FitChildren p (vs ⧺ s ⧺ l ⧺ v) (ts ▸ k ∶ t)
   fit-more p vs s l v ts k t fit fits here n =
       let g = fit (here-left vs (s ⧺ l ⧺ v) here) n in
-      let d = fits (here-right l v (here-right s (l ⧺ v) (here-right vs (s ⧺ l ⧺ v) here))) (n + nodesAll ts) in
-      (g.0 ▹ keyBytes x k ∶ d.0, cc (g.1, d.1))
+      let d = fits (here-right l v (here-right s (l ⧺ v) (here-right vs (s ⧺ l ⧺ v) here))) (n + nodes_all ts) in
+      (g.0 ▹ key_bytes x k ∶ d.0, cc (g.1, d.1))
 
   fit-value : {p : ℕ} {v : Text} {t : Tree} → Value S p v t → FitValue p v t
   fit-value d =
@@ -84,16 +84,16 @@ module _ (S : ℕ → Bool) (x : Text) where
   -- a policy that was read: of a right shape, its strings where they should be
   pub record Readable (p : Policy Span) : Type 0 where
     pub shape : Shape p
-    pub fits : Each (Fits S x) (allStrings p)
+    pub fits : Each (Fits S x) (all_strings p)
 
   pub readable : (t : Tree) (q : ℕ) (p : Policy Span) → read S limits x ≡ accepted t q → mapping (node_of x t 0) ≡ good p → Readable p
   readable t q p e m =
       let r = sound S limits x t q e in
       let g = fit-value r.reads (record { rest = r.rest; cut = r.split }) 0 in
-      let u = unmap (overStrings span) (mapping g.0) p (sym (mapping-natural span g.0) ∙ ap mapping g.1 ∙ m) in
+      let u = unmap (over_strings span) (mapping g.0) p (sym (mapping-natural span g.0) ∙ ap mapping g.1 ∙ m) in
       record {
-        shape = (rw m at (meets-mapping (node_of x t 0))) (rw (size-nodeOf x t 0) (within S x t q e).1);
-        fits = rw (sym u.2, allStrings-over span u.0) (fit-spans (allStrings u.0));
+        shape = (rw m at (meets-mapping (node_of x t 0))) (rw (size-node_of x t 0) (within S x t q e).1);
+        fits = rw (sym u.2, all_strings-over span u.0) (fit-spans (all_strings u.0));
       }
 
   -- it is printable but for its length
@@ -101,5 +101,5 @@ module _ (S : ℕ → Bool) (x : Text) where
   readable-proper {p} r =
       record {
         shape = simp length-map (shape-right r.shape);
-        stringBytes = rw (allStrings-over (content x) p) (each_map (content x) (allStrings p) (λ s f. f.stringBytes) r.fits);
+        string_bytes = rw (all_strings-over (content x) p) (each_map (content x) (all_strings p) (λ s f. f.string_bytes) r.fits);
       }

@@ -1,7 +1,7 @@
--- Byte classes against each other, and `stringByte` as a plain set. Assumes nothing.
+-- Byte classes against each other, and `string_byte` as a plain set. Assumes nothing.
 use Rattle.std.specs.Prelude.{◌≡◌, refl, ℕ, zero, suc, Bool, true, false, cond, ◌&&◌, ◌||◌, [], ◌∷◌, ◌++◌, T, eqb}
 use Rattle.std.proofs.Common.{sym, subst, eqb→eq}
-use Rattle.cel_text.specs.Byte.{Text, Run, over, byte, bytes, blank, identByte, stringByte, comma, Plain}
+use Rattle.cel_text.specs.Byte.{Text, Run, over, byte, bytes, blank, ident_byte, string_byte, comma, Plain}
 use Rattle.cel_text.specs.Tree.{Kind, array, object, function, closer}
 
 -- a test's value from a proof of it, and from a refutation
@@ -48,17 +48,17 @@ blank-cases P s t l r b h =
 disjoint : (f : ℕ → Bool) → f 32 ≡ false → f 9 ≡ false → f 10 ≡ false → f 13 ≡ false → (b : ℕ) → T (blank b) → f b ≡ false
 disjoint f s t l r b h = blank-cases (λ x. f x ≡ false) s t l r b h
 
-pub ident-blank : (b : ℕ) → T (blank b) → identByte b ≡ false
-unfolding identByte
-ident-blank = disjoint identByte refl refl refl refl
+pub ident-blank : (b : ℕ) → T (blank b) → ident_byte b ≡ false
+unfolding ident_byte
+ident-blank = disjoint ident_byte refl refl refl refl
 
 -- no identifier byte is a blank
-pub blank-ident : (b : ℕ) → T (identByte b) → blank b ≡ false
+pub blank-ident : (b : ℕ) → T (ident_byte b) → blank b ≡ false
 blank-ident b h = is_false (blank b) (λ t. subst T (ident-blank b t) h)
 
-pub stringByte-plain : Plain stringByte
-unfolding stringByte
-stringByte-plain = record { noQuote = refl; noBlank = disjoint stringByte refl refl refl refl }
+pub string_byte-plain : Plain string_byte
+unfolding string_byte
+string_byte-plain = record { no_quote = refl; no_blank = disjoint string_byte refl refl refl refl }
 
 -- a closer is no blank and no comma
 pub closer-blank : (c : Kind) → blank (closer c) ≡ false
@@ -88,12 +88,12 @@ blank-members : members blank 256 0 ≡ 9 ∷ 10 ∷ 13 ∷ 32 ∷ []
 unfolding members blank
 blank-members = refl
 
-ident-members : members identByte 256 0 ≡ bytes "0123456789ABCDEFGHIJKLMNOPQRSTUVWXYZ_abcdefghijklmnopqrstuvwxyz"
-unfolding members identByte
+ident-members : members ident_byte 256 0 ≡ bytes "0123456789ABCDEFGHIJKLMNOPQRSTUVWXYZ_abcdefghijklmnopqrstuvwxyz"
+unfolding members ident_byte
 ident-members = refl
 
-string-members : members stringByte 256 0 ≡ bytes "-0123456789ABCDEFGHIJKLMNOPQRSTUVWXYZabcdefghijklmnopqrstuvwxyz"
-unfolding members stringByte
+string-members : members string_byte 256 0 ≡ bytes "-0123456789ABCDEFGHIJKLMNOPQRSTUVWXYZabcdefghijklmnopqrstuvwxyz"
+unfolding members string_byte
 string-members = refl
 
 -- runs of one class

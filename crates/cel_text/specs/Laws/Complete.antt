@@ -7,12 +7,12 @@ use mathlib.Core.List.{[], ◌∷◌, ◌++◌, append_assoc}
 use Rattle.std.proofs.Math.ListN.{length, length-append}
 use Rattle.std.proofs.Math.Seq.{take-append_seam}
 use native.Mathlib.Omega.{arith}
-use Rattle.cel_text.specs.Byte.{Text, ◌⧺◌, blank, identByte, Run, over, byte, Blanks, quote, comma, colon, Plain}
-use Rattle.cel_text.specs.Tree.{Kind, array, object, function, opener, closer, Key, unkeyed, key, Tree, string, container, Trees, ∅, ◌▸◌∶◌, nodes, nodesAll, depth}
+use Rattle.cel_text.specs.Byte.{Text, ◌⧺◌, blank, ident_byte, Run, over, byte, Blanks, quote, comma, colon, Plain}
+use Rattle.cel_text.specs.Tree.{Kind, array, object, function, opener, closer, Key, unkeyed, key, Tree, string, container, Trees, ∅, ◌▸◌∶◌, nodes, nodes_all, depth}
 use Rattle.cel_text.specs.Grammar.{Named, nameless, with-name, Head, array_head, object-head, function-head, Label, in_array, in-function, in-object, Separator, first, next, Value, a-string}
 use Rattle.cel_text.specs.Grammar.{a-container, no-child, one_more}
 use Rattle.cel_text.specs.Reading.{Limits, Stack, root, inside, level, opened, Frame, Due, value, entry, State, before, quoted, dropping, begun, after, Step, go, step, start, past, bare}
-use Rattle.cel_text.specs.Reading.{unquote, enter, enterString, whole, child, closed, fresh, withKey, accepted, follow, run, read, limits, unlimited, maxDepth, maxNodes}
+use Rattle.cel_text.specs.Reading.{unquote, enter, enter_string, whole, child, closed, fresh, with_key, accepted, follow, run, read, limits, unlimited, max_depth, max_nodes}
 use Rattle.cel_text.specs.Laws.Class.{is_true, is_false, blank-ident, closer-blank, closer-comma, closer-closer}
 use Rattle.cel_text.specs.Laws.Admit.{Admits, AdmitsAll, fits-admits, unlimited-admits}
 use Rattle.cel_text.specs.Laws.Run.{resume, whole-resumes, before-blanks, quoted-strings, dropping-blanks, begun-blanks, after-blanks, after-name}
@@ -24,22 +24,22 @@ record Starts (r : Text) : Type 0 where
   head : ℕ
   tail : Text
   split : r ≡ blanks ++ head ∷ tail
-  areBlanks : Blanks blanks
-  noBlank : blank head ≡ false
-  noCloser : (c : Kind) → eqb head (closer c) ≡ false
+  are_blanks : Blanks blanks
+  no_blank : blank head ≡ false
+  no_closer : (c : Kind) → eqb head (closer c) ≡ false
 
-ident-closer : (b : ℕ) → T (identByte b) → (c : Kind) → eqb b (closer c) ≡ false
-ident-closer b t c = is_false (eqb b (closer c)) (λ e. no c (subst (λ (x : ℕ). T (identByte x)) (eqb→eq b (closer c) e) t))
+ident-closer : (b : ℕ) → T (ident_byte b) → (c : Kind) → eqb b (closer c) ≡ false
+ident-closer b t c = is_false (eqb b (closer c)) (λ e. no c (subst (λ (x : ℕ). T (ident_byte x)) (eqb→eq b (closer c) e) t))
   where
-    no : (c : Kind) → T (identByte (closer c)) → ⊥
-    no array h = unfold identByte in h
-    no object h = unfold identByte in h
-    no function h = unfold identByte in h
+    no : (c : Kind) → T (ident_byte (closer c)) → ⊥
+    no array h = unfold ident_byte in h
+    no object h = unfold ident_byte in h
+    no function h = unfold ident_byte in h
 
 named-starts : {p : ℕ} {l : Text} {from to : ℕ} → Named p l from to → (y : ℕ) (r : Text) → blank y ≡ false → ((c : Kind) → eqb y (closer c) ≡ false) → Starts (l ++ y ∷ r)
-named-starts (nameless {b = b} bs) y r nb nc = record { blanks = b; head = y; tail = r; split = refl; areBlanks = bs; noBlank = nb; noCloser = nc }
+named-starts (nameless {b = b} bs) y r nb nc = record { blanks = b; head = y; tail = r; split = refl; are_blanks = bs; no_blank = nb; no_closer = nc }
 named-starts (with-name {b = b} {c = c} bs (byte {b = i} {bs = is} t ts) cs) y r nb nc =
-    record { blanks = b; head = i; tail = is ++ (c ++ y ∷ r); split = simp append_assoc; areBlanks = bs; noBlank = blank-ident i t; noCloser = ident-closer i t }
+    record { blanks = b; head = i; tail = is ++ (c ++ y ∷ r); split = simp append_assoc; are_blanks = bs; no_blank = blank-ident i t; no_closer = ident-closer i t }
 
 open-starts : (c : Kind) {p : ℕ} {h : Text} {from to : ℕ} → Head c p h from to → (r : Text) → Starts (h ++ opener c ∷ r)
 open-starts array (array_head bs) r = named-starts {p = 0} (nameless bs) (opener array) r (unfold blank in refl) (λ c. elim c [ array ↦ refl | object ↦ refl | function ↦ refl ])
@@ -74,9 +74,9 @@ module _ (S : ℕ → Bool) (L : Limits) where
   -- an opener, after what stands before it
   opens : (c : Kind) (K : Stack) {p : ℕ} {h : Text} {from to : ℕ} → Head c p h from to → (r : Text)
       → run S L (before (value K)) p (h ++ opener c ∷ r) ≡ follow (enter S L c K from to (p + length h)) (p + length h) (λ st. run S L st (suc (p + length h)) r)
-  opens array K {p = p} (array_head {b = b} bs) r = before-blanks S L (value K) bs p (opener array ∷ r) ∙ (unfold step start blank identByte bare in refl)
-  opens object K (object-head n) r = after-name S L (value K) n (opener object) r (unfold blank in refl) (unfold identByte in refl) refl refl ∙ (unfold past in refl)
-  opens function K (function-head n) r = after-name S L (value K) n (opener function) r (unfold blank in refl) (unfold identByte in refl) refl refl ∙ (unfold past in refl)
+  opens array K {p = p} (array_head {b = b} bs) r = before-blanks S L (value K) bs p (opener array ∷ r) ∙ (unfold step start blank ident_byte bare in refl)
+  opens object K (object-head n) r = after-name S L (value K) n (opener object) r (unfold blank in refl) (unfold ident_byte in refl) refl refl ∙ (unfold past in refl)
+  opens function K (function-head n) r = after-name S L (value K) n (opener function) r (unfold blank in refl) (unfold ident_byte in refl) refl refl ∙ (unfold past in refl)
 
   enters : (c : Kind) (K : Stack) (from to p : ℕ) → L.deep (suc (level K)) ≡ false → L.many (opened K) ≡ false → enter S L c K from to p ≡ go (begun K (fresh c p from to))
   unfolding enter
@@ -86,10 +86,10 @@ module _ (S : ℕ → Bool) (L : Limits) where
   string-end : Plain S → (K : Stack) (o : ℕ) {c : Text} → Blanks c → (e : ℕ) (rest : Text)
       → run S L (quoted K o) e (c ++ quote ∷ rest) ≡ resume S L K (string o e (suc (e + length c))) (suc (e + length c)) rest
   string-end P K o over e rest =
-      let quoted-ends : step S L (quoted K o) e quote ≡ whole K (string o e (suc e)) = unfold step unquote blank in rw P.noQuote in
+      let quoted-ends : step S L (quoted K o) e quote ≡ whole K (string o e (suc e)) = unfold step unquote blank in rw P.no_quote in
       rw (add-zero, quoted-ends) (whole-resumes S L K (string o e (suc e)) e rest)
   string-end P K o (byte {b = b} {bs = bs} t ts) e rest =
-      let drops : step S L (quoted K o) e b ≡ go (dropping K o e) = unfold step unquote in rw (P.noBlank b t, is_true (blank b) t) in
+      let drops : step S L (quoted K o) e b ≡ go (dropping K o e) = unfold step unquote in rw (P.no_blank b t, is_true (blank b) t) in
       let n : ℕ = suc e + length bs in
       let ends : step S L (dropping K o e) n quote ≡ whole K (string o e (suc n)) = unfold step unquote blank in refl in
       let places : n ≡ e + suc (length bs) = omega arith in
@@ -118,10 +118,10 @@ module _ (S : ℕ → Bool) (L : Limits) where
       let y : ℕ = s.head in
       let n : ℕ = q + length b in
       let w : Due = child f.kind K f in
-      let same : step S L (begun K f) n y ≡ step S L (before w) n y = unfold step in rw (s.noBlank, s.noCloser f.kind) in
-      rw s.split (begun-blanks S L K f s.areBlanks q (y ∷ s.tail)
+      let same : step S L (begun K f) n y ≡ step S L (before w) n y = unfold step in rw (s.no_blank, s.no_closer f.kind) in
+      rw s.split (begun-blanks S L K f s.are_blanks q (y ∷ s.tail)
       ∙ ap (λ (u : Step). follow u n (λ st. run S L st (suc n) s.tail)) same
-      ∙ sym (before-blanks S L w s.areBlanks q (y ∷ s.tail)))
+      ∙ sym (before-blanks S L w s.are_blanks q (y ∷ s.tail)))
 
   separates : (c : Kind) (K : Stack) (o from to : ℕ) {ts : Trees} {s : Text} → Separator ts s → (r : Text) → Starts r → (q : ℕ)
       → run S L (resting ts K (holding c o from to ts)) q (s ++ r) ≡ run S L (before (child c K (holding c o from to ts))) (q + length s) r
@@ -135,16 +135,16 @@ module _ (S : ℕ → Bool) (L : Limits) where
       rw regroup (after-blanks S L K f bs q (comma ∷ r) ∙ rw goes (ap (λ (m : ℕ). run S L (before (child c K f)) m r) places))
 
   labels : (K : Stack) (o from to : ℕ) (ts : Trees) {c : Kind} {q : ℕ} {l : Text} {k : Key} → Label c q l k → (r : Text)
-      → run S L (before (child c K (holding c o from to ts))) q (l ++ r) ≡ run S L (before (value (inside K (withKey (holding c o from to ts) k)))) (q + length l) r
+      → run S L (before (child c K (holding c o from to ts))) q (l ++ r) ≡ run S L (before (value (inside K (with_key (holding c o from to ts) k)))) (q + length l) r
   labels K o from to ts in_array r = rw add-zero
   labels K o from to ts in-function r = rw add-zero
   labels K o from to ts {q = q} (in-object {l = l} {from = kf} {to = kt} n) r =
       let f : Frame = holding object o from to ts in
-      let w : State = before (value (inside K (withKey f (key kf kt)))) in
+      let w : State = before (value (inside K (with_key f (key kf kt)))) in
       let regroup : (l ⧺ colon ∷ []) ++ r ≡ l ++ colon ∷ r = simp append_assoc in
       let goes : past S L (entry K f) kf kt (q + length l) colon ≡ go w = unfold past in refl in
       let places : suc (q + length l) ≡ q + length (l ⧺ colon ∷ []) = simp length-append (omega arith) in
-      rw regroup (after-name S L (entry K f) n colon r (unfold blank in refl) (unfold identByte in refl) refl refl
+      rw regroup (after-name S L (entry K f) n colon r (unfold blank in refl) (unfold ident_byte in refl) refl refl
       ∙ rw goes (ap (λ (m : ℕ). run S L w m r) places))
 
   -- ---- a value, by induction on how the grammar makes it
@@ -162,7 +162,7 @@ module _ (S : ℕ → Bool) (L : Limits) where
       let q : ℕ = p + length b in
       let e : ℕ = suc q + length i in
       let t : Tree = string q e (suc (e + length c)) in
-      let enters : step S L (before (value K)) q quote ≡ go (quoted K q) = unfold step start blank identByte bare enterString in rw a in
+      let enters : step S L (before (value K)) q quote ≡ go (quoted K q) = unfold step start blank ident_byte bare enter_string in rw a in
       let regroup : (b ⧺ (quote ∷ i) ⧺ c ⧺ quote ∷ []) ++ rest ≡ b ++ (quote ∷ (i ++ (c ++ quote ∷ rest))) = simp append_assoc in
       let places : suc (e + length c) ≡ p + length (b ⧺ (quote ∷ i) ⧺ c ⧺ quote ∷ []) = simp length-append (omega arith) in
       rw regroup (before-blanks S L (value K) bs p (quote ∷ (i ++ (c ++ quote ∷ rest)))
@@ -189,11 +189,11 @@ module _ (S : ℕ → Bool) (L : Limits) where
       let q : ℕ = p + length vs in
       let regroup : (vs ⧺ s ⧺ l ⧺ v) ++ rest ≡ vs ++ (s ++ (l ++ (v ++ rest))) = simp append_assoc in
       let places : q + length s + length l + length v ≡ p + length (vs ⧺ s ⧺ l ⧺ v) = simp length-append (omega arith) in
-      let admitted : Admits L t (suc (level K)) (suc (opened K + nodesAll ts)) = subst (λ (n : ℕ). Admits L t (suc (level K)) n) (suc-add (opened K) (nodesAll ts)) a.1 in
+      let admitted : Admits L t (suc (level K)) (suc (opened K + nodes_all ts)) = subst (λ (n : ℕ). Admits L t (suc (level K)) n) (suc-add (opened K) (nodes_all ts)) a.1 in
       rw regroup (ch K o from to (s ++ (l ++ (v ++ rest))) a.0
       ∙ separates c K o from to sep (l ++ (v ++ rest)) (label-starts lab (v ++ rest) (value-starts S val rest)) q
       ∙ labels K o from to ts lab (v ++ rest)
-      ∙ ih (inside K (withKey f k)) rest admitted
+      ∙ ih (inside K (with_key f k)) rest admitted
       ∙ ap (λ (n : ℕ). run S L (after K (holding c o from to (ts ▸ k ∶ t))) n rest) places)
 
   -- a whole value is read, whatever follows it
@@ -207,7 +207,7 @@ module _ (S : ℕ → Bool) (L : Limits) where
       ]
 
 -- T2 at the limits of SPEC.md
-pub complete : (S : ℕ → Bool) → Plain S → {v : Text} {t : Tree} → Value S 0 v t → depth t ≤ maxDepth → nodes t ≤ maxNodes → (rest : Text) → read S limits (v ++ rest) ≡ accepted t (length v)
+pub complete : (S : ℕ → Bool) → Plain S → {v : Text} {t : Tree} → Value S 0 v t → depth t ≤ max_depth → nodes t ≤ max_nodes → (rest : Text) → read S limits (v ++ rest) ≡ accepted t (length v)
 complete S P {v = v} {t = t} d hd hn rest =
     reads-value S limits P d root rest (fits-admits t 0 0 (omega arith) (omega arith)) ∙ ap (accepted t) (omega arith)
 

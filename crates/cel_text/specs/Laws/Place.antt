@@ -5,11 +5,11 @@ use Rattle.std.proofs.Common.{sym, ap, subst, subst₂, ◌∙◌, zero-add, le_
 use Rattle.std.proofs.Math.Decide.{dec_le}
 use mathlib.Core.List.{List, [], ◌∷◌, ◌++◌, append_assoc, append-nil}
 use Rattle.std.proofs.Math.Seq.{take-append_seam, take-append-add}
-use Rattle.cel_text.specs.Byte.{Text, blank, identByte, over, quote, colon, Plain}
+use Rattle.cel_text.specs.Byte.{Text, blank, ident_byte, over, quote, colon, Plain}
 use Rattle.cel_text.specs.Tree.{function, opener, closer, unkeyed, key, Tree, string, ∅, ◌▸◌∶◌, Opening}
 use Rattle.cel_text.specs.Grammar.{a-string, Legal, Viable, Longest}
 use Rattle.cel_text.specs.Reading.{Limits, unlimited, Stack, root, inside, Frame, Due, value, entry, State, before, naming, named, quoted, dropping, begun, after, Fault, syntax, Step, go}
-use Rattle.cel_text.specs.Reading.{done, refuse, step, start, past, bare, unquote, enter, whole, closed, fresh, withKey, withChild, Outcome, accepted, refused, run, read}
+use Rattle.cel_text.specs.Reading.{done, refuse, step, start, past, bare, unquote, enter, whole, closed, fresh, with_key, with_child, Outcome, accepted, refused, run, read}
 use Rattle.cel_text.specs.Laws.Run.{resume, whole-resumes}
 use Rattle.cel_text.specs.Laws.Complete.{reads-value, closes, complete-unlimited}
 use Rattle.cel_text.specs.Laws.Trace.{Trace, here, there, traced, Accepts, Refuses, Stops, Ends, ends}
@@ -99,7 +99,7 @@ module _ (S : ℕ → Bool) (P : Plain S) where
   unfolding closers
   close root t p o x e = record { further = x ++ []; tree = t; place = p; ends = e }
   close (inside K f) t p o x e =
-      let g : Frame = withChild f t in
+      let g : Frame = with_child f t in
       close K (closed g (suc (p + 0))) (suc (p + 0)) o (x ++ closer f.kind ∷ [])
       (rw append_assoc (e ∙ closes S unlimited g.children K g over p (closers K)))
 
@@ -109,14 +109,14 @@ module _ (S : ℕ → Bool) (P : Plain S) where
       close K t (p + 2) o (x ++ quote ∷ quote ∷ [])
       (rw append_assoc (e (quote ∷ quote ∷ closers K) ∙ reads-value S unlimited P (a-string over over over) K (closers K) refl))
 
-  finish-named : (w : Due) (from to p : ℕ) (st : State) → ((b : ℕ) → blank b ≡ false → identByte b ≡ false → step S unlimited st p b ≡ past S unlimited w from to p b) → Finish (run S unlimited st p)
+  finish-named : (w : Due) (from to p : ℕ) (st : State) → ((b : ℕ) → blank b ≡ false → ident_byte b ≡ false → step S unlimited st p b ≡ past S unlimited w from to p b) → Finish (run S unlimited st p)
   finish-named (value K) from to p st e =
       let f : Frame = fresh function p from to in
       close K (closed f (suc (suc p + 0))) (suc (suc p + 0)) (run S unlimited st p) (opener function ∷ closer function ∷ [])
-      (rw (e (opener function) (unfold blank in refl) (unfold identByte in refl)) (unfold past enter in closes S unlimited ∅ K f over (suc p) (closers K)))
+      (rw (e (opener function) (unfold blank in refl) (unfold ident_byte in refl)) (unfold past enter in closes S unlimited ∅ K f over (suc p) (closers K)))
   finish-named (entry K f) from to p st e =
-      finish-value (inside K (withKey f (key from to))) (suc p) (run S unlimited st p) (colon ∷ [])
-      (λ w. rw (e colon (unfold blank in refl) (unfold identByte in refl)) (unfold past in refl))
+      finish-value (inside K (with_key f (key from to))) (suc p) (run S unlimited st p) (colon ∷ [])
+      (λ w. rw (e colon (unfold blank in refl) (unfold ident_byte in refl)) (unfold past in refl))
 
   pub finish : (st : State) (p : ℕ) → Finish (run S unlimited st p)
   finish (before (value K)) p = finish-value K p (run S unlimited (before (value K)) p) [] (λ w. refl)
@@ -125,7 +125,7 @@ module _ (S : ℕ → Bool) (P : Plain S) where
   finish (named w from to) p = finish-named w from to p (named w from to) (λ b nb ni. unfold step in rw nb)
   finish (quoted K o) p =
       close K (string o p (suc p)) (suc p) (run S unlimited (quoted K o) p) (quote ∷ [])
-      (unfold step unquote blank in rw P.noQuote (whole-resumes S unlimited K (string o p (suc p)) p (closers K)))
+      (unfold step unquote blank in rw P.no_quote (whole-resumes S unlimited K (string o p (suc p)) p (closers K)))
   finish (dropping K o to) p =
       close K (string o to (suc p)) (suc p) (run S unlimited (dropping K o to) p) (quote ∷ []) (unfold step unquote blank in whole-resumes S unlimited K (string o to (suc p)) p (closers K))
   finish (begun K f) p =

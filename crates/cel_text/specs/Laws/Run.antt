@@ -6,17 +6,17 @@ use Prim.Native.Nat.{ℕ, suc, ◌+◌}
 use mathlib.Core.List.{[], ◌∷◌, ◌++◌, append_assoc}
 use Rattle.std.proofs.Math.ListN.{length, length-append}
 use native.Mathlib.Omega.{arith}
-use Rattle.cel_text.specs.Byte.{Text, ◌⧺◌, blank, identByte, Run, over, byte, Blanks, quote}
+use Rattle.cel_text.specs.Byte.{Text, ◌⧺◌, blank, ident_byte, Run, over, byte, Blanks, quote}
 use Rattle.cel_text.specs.Tree.{Tree, opener, array}
 use Rattle.cel_text.specs.Grammar.{Named, nameless, with-name}
 use Rattle.cel_text.specs.Reading.{Limits, Stack, root, inside, Frame, Due, value, entry, State, before, naming, named, quoted, dropping, begun, after, Step, go, done, refuse, step, start}
-use Rattle.cel_text.specs.Reading.{past, bare, unquote, whole, withChild, Outcome, accepted, ended, stopped, outcome, meet, follow, halt, run}
+use Rattle.cel_text.specs.Reading.{past, bare, unquote, whole, with_child, Outcome, accepted, ended, stopped, outcome, meet, follow, halt, run}
 use Rattle.cel_text.specs.Laws.Class.{is_true, ident-blank, blank-ident}
 
 -- reading on, once the value t is whole, at place q
 abbrev pub resume : (ℕ → Bool) → Limits → Stack → Tree → ℕ → Text → Outcome
 resume S L root t q rest = accepted t q
-resume S L (inside K f) t q rest = run S L (after K (withChild f t)) q rest
+resume S L (inside K f) t q rest = run S L (after K (with_child f t)) q rest
 
 module _ (S : ℕ → Bool) (L : Limits) where
   -- what reading on gives is the outcome of where it stops
@@ -47,9 +47,9 @@ module _ (S : ℕ → Bool) (L : Limits) where
   unfolding step
   named-blanks w from to = stays blank (named w from to) (λ p b t. rw (is_true (blank b) t))
 
-  pub naming-idents : (w : Due) (from : ℕ) {x : Text} → Run identByte x → (p : ℕ) (r : Text) → run S L (naming w from) p (x ++ r) ≡ run S L (naming w from) (p + length x) r
+  pub naming-idents : (w : Due) (from : ℕ) {x : Text} → Run ident_byte x → (p : ℕ) (r : Text) → run S L (naming w from) p (x ++ r) ≡ run S L (naming w from) (p + length x) r
   unfolding step
-  naming-idents w from = stays identByte (naming w from) (λ p b t. rw (is_true (identByte b) t))
+  naming-idents w from = stays ident_byte (naming w from) (λ p b t. rw (is_true (ident_byte b) t))
 
   pub quoted-strings : (K : Stack) (o : ℕ) {x : Text} → Run S x → (p : ℕ) (r : Text) → run S L (quoted K o) p (x ++ r) ≡ run S L (quoted K o) (p + length x) r
   unfolding step
@@ -68,34 +68,34 @@ module _ (S : ℕ → Bool) (L : Limits) where
   after-blanks K f = stays blank (after K f) (λ p b t. rw (is_true (blank b) t))
 
   -- what the byte y at place n does after an identifier from `from` to `to`, and what follows
-  abbrev pub pastName : Due → (from to : ℕ) → ℕ → (y : ℕ) → Text → Outcome
-  pastName w from to n y r = follow (past S L w from to n y) n (λ st. run S L st (suc n) r)
+  abbrev pub past_name : Due → (from to : ℕ) → ℕ → (y : ℕ) → Text → Outcome
+  past_name w from to n y r = follow (past S L w from to n y) n (λ st. run S L st (suc n) r)
 
   -- from an identifier's end on: blanks, then the byte y that is neither
-  name-end : (w : Due) (from : ℕ) {c : Text} → Blanks c → (e y : ℕ) (r : Text) → blank y ≡ false → identByte y ≡ false
-      → run S L (naming w from) e (c ++ y ∷ r) ≡ pastName w from e (e + length c) y r
+  name-end : (w : Due) (from : ℕ) {c : Text} → Blanks c → (e y : ℕ) (r : Text) → blank y ≡ false → ident_byte y ≡ false
+      → run S L (naming w from) e (c ++ y ∷ r) ≡ past_name w from e (e + length c) y r
   name-end w from over e y r nb ni = unfold step in rw (add-zero, ni, nb)
   name-end w from (byte {b = b} {bs = bs} t ts) e y r nb ni =
       let first : step S L (naming w from) e b ≡ go (named w from e) = unfold step in rw (ident-blank b t, is_true (blank b) t) in
-      let last : run S L (named w from e) (suc e + length bs) (y ∷ r) ≡ pastName w from e (suc e + length bs) y r = unfold step in rw nb in
+      let last : run S L (named w from e) (suc e + length bs) (y ∷ r) ≡ past_name w from e (suc e + length bs) y r = unfold step in rw nb in
       let places : suc e + length bs ≡ e + suc (length bs) = omega arith in
-      rw first (named-blanks w from e ts (suc e) (y ∷ r) ∙ last ∙ ap (λ (n : ℕ). pastName w from e n y r) places)
+      rw first (named-blanks w from e ts (suc e) (y ∷ r) ∙ last ∙ ap (λ (n : ℕ). past_name w from e n y r) places)
 
   -- after blanks, an identifier and blanks, at a byte that is none of these and opens no array or string
   pub after-name : (w : Due) {p : ℕ} {l : Text} {from to : ℕ} → Named p l from to → (y : ℕ) (r : Text)
-      → blank y ≡ false → identByte y ≡ false → eqb y (opener array) ≡ false → eqb y quote ≡ false
-      → run S L (before w) p (l ++ y ∷ r) ≡ pastName w from to (p + length l) y r
+      → blank y ≡ false → ident_byte y ≡ false → eqb y (opener array) ≡ false → eqb y quote ≡ false
+      → run S L (before w) p (l ++ y ∷ r) ≡ past_name w from to (p + length l) y r
   after-name w {p = p} (nameless {b = b} bs) y r nb ni na nq = before-blanks w bs p (y ∷ r) ∙ bare-past w (p + length b)
     where
-      bare-past : (w : Due) (q : ℕ) → run S L (before w) q (y ∷ r) ≡ pastName w q q q y r
+      bare-past : (w : Due) (q : ℕ) → run S L (before w) q (y ∷ r) ≡ past_name w q q q y r
       bare-past (value K) q = unfold step start bare in rw (nb, ni, na, nq)
       bare-past (entry K f) q = unfold step start bare in rw (nb, ni)
   after-name w {p = p} (with-name {b = b} {c = c} bs (byte {b = i} {bs = is} t ts) cs) y r nb ni na nq =
       let q : ℕ = p + length b in
-      let first : step S L (before w) q i ≡ go (naming w q) = unfold step start in rw (blank-ident i t, is_true (identByte i) t) in
+      let first : step S L (before w) q i ≡ go (naming w q) = unfold step start in rw (blank-ident i t, is_true (ident_byte i) t) in
       let ends : suc q + length is ≡ q + suc (length is) = omega arith in
       let places : suc q + length is + length c ≡ p + length (b ⧺ (i ∷ is) ⧺ c) = simp length-append (omega arith) in
       let regroup : (b ⧺ (i ∷ is) ⧺ c) ++ y ∷ r ≡ b ++ (i ∷ (is ++ (c ++ y ∷ r))) = simp append_assoc in
       ap (run S L (before w) p) regroup ∙ before-blanks w bs p (i ∷ (is ++ (c ++ y ∷ r)))
       ∙ rw first (naming-idents w q ts (suc q) (c ++ y ∷ r) ∙ name-end w q cs (suc q + length is) y r nb ni
-      ∙ ap₂ (λ (e n : ℕ). pastName w q e n y r) ends places)
+      ∙ ap₂ (λ (e n : ℕ). past_name w q e n y r) ends places)

@@ -9,12 +9,12 @@ use mathlib.Core.List.{[], ◌∷◌, ◌++◌, append_assoc, append-nil}
 use Rattle.std.proofs.Math.ListN.{length, length-append}
 use Rattle.std.proofs.Math.Dec.{eqb}
 use borrow.Author.Tests.{eqb-true}
-use Rattle.cel_text.specs.Byte.{Text, ◌⧺◌, blank, identByte, Run, over, byte, Blanks, Identifier, quote, comma, colon}
-use Rattle.cel_text.specs.Tree.{Kind, array, object, function, opener, closer, Key, unkeyed, key, Tree, string, container, Trees, nodes, nodesAll, depth}
+use Rattle.cel_text.specs.Byte.{Text, ◌⧺◌, blank, ident_byte, Run, over, byte, Blanks, Identifier, quote, comma, colon}
+use Rattle.cel_text.specs.Tree.{Kind, array, object, function, opener, closer, Key, unkeyed, key, Tree, string, container, Trees, nodes, nodes_all, depth}
 use Rattle.cel_text.specs.Grammar.{Named, nameless, with-name, Head, array_head, object-head, function-head, Label, in_array, in-function, in-object, Separator, first, next, Value, a-string}
 use Rattle.cel_text.specs.Grammar.{a-container, Children, no-child, one_more}
 use Rattle.cel_text.specs.Reading.{Limits, Stack, root, inside, level, opened, Frame, Due, value, entry, State, before, naming, named, quoted, dropping, begun, after, Step, go, done, refuse}
-use Rattle.cel_text.specs.Reading.{step, start, past, bare, unquote, enter, enterString, whole, child, closed, withKey, accepted, read, limits, maxDepth, maxNodes}
+use Rattle.cel_text.specs.Reading.{step, start, past, bare, unquote, enter, enter_string, whole, child, closed, with_key, accepted, read, limits, max_depth, max_nodes}
 use Rattle.cel_text.specs.Laws.Class.{by-test}
 use Rattle.cel_text.specs.Laws.Admit.{Admits, AdmitsAll, admits-fits}
 use Rattle.cel_text.specs.Laws.Trace.{Trace, here, there, Accepts, Ends, ends}
@@ -36,9 +36,9 @@ module _ (S : ℕ → Bool) where
     pub head : Text
     pub kids : Text
     pub ready : Outer outer
-    pub isHead : Head f.kind (length outer) head f.from f.to
+    pub is_head : Head f.kind (length outer) head f.from f.to
     pub opening : f.o ≡ length outer + length head
-    pub areKids : Children S f.kind (suc (length outer + length head)) kids f.children
+    pub are_kids : Children S f.kind (suc (length outer + length head)) kids f.children
     pub split : y ≡ outer ⧺ head ⧺ opener f.kind ∷ kids
 
   -- and then a separator and a label, so that f's next value is due
@@ -47,8 +47,8 @@ module _ (S : ℕ → Bool) where
     pub separator : Text
     pub label : Text
     pub holds : Holds Outer held f
-    pub isSeparator : Separator f.children separator
-    pub isLabel : Label f.kind (length held + length separator) label f.next
+    pub is_separator : Separator f.children separator
+    pub is_label : Label f.kind (length held + length separator) label f.next
     pub split : y ≡ held ⧺ separator ⧺ label
 
   -- a value is due in K, right after y
@@ -57,11 +57,11 @@ module _ (S : ℕ → Bool) where
   Ready (inside K f) y = Awaits (λ z. Ready K z) y f
 
   pub record Entering (K : Stack) (f : Frame) (y : Text) : Type 0 where
-    pub isObject : f.kind ≡ object
+    pub is_object : f.kind ≡ object
     pub held : Text
     pub separator : Text
     pub holds : Holds (Ready K) held f
-    pub isSeparator : Separator f.children separator
+    pub is_separator : Separator f.children separator
     pub split : y ≡ held ⧺ separator
 
   abbrev pub DueAt : Due → Text → Type 0
@@ -72,7 +72,7 @@ module _ (S : ℕ → Bool) where
     pub front : Text
     pub blanks : Text
     pub holds : P front
-    pub areBlanks : Blanks blanks
+    pub are_blanks : Blanks blanks
     pub split : x ≡ front ⧺ blanks
 
   pub record Naming (w : Due) (from : ℕ) (x : Text) : Type 0 where
@@ -81,8 +81,8 @@ module _ (S : ℕ → Bool) where
     pub i : ℕ
     pub is : Text
     pub due : DueAt w front
-    pub areBlanks : Blanks blanks
-    pub isName : Identifier (i ∷ is)
+    pub are_blanks : Blanks blanks
+    pub is_name : Identifier (i ∷ is)
     pub begins : from ≡ length front + length blanks
     pub split : x ≡ front ⧺ blanks ⧺ i ∷ is
 
@@ -91,7 +91,7 @@ module _ (S : ℕ → Bool) where
     pub stem : Text
     pub blanks : Text
     pub holds : P stem
-    pub areBlanks : Blanks blanks
+    pub are_blanks : Blanks blanks
     pub ends : to ≡ length stem
     pub split : x ≡ stem ⧺ blanks
 
@@ -100,15 +100,15 @@ module _ (S : ℕ → Bool) where
     pub blanks : Text
     pub content : Text
     pub ready : Ready K front
-    pub areBlanks : Blanks blanks
-    pub isContent : Run S content
+    pub are_blanks : Blanks blanks
+    pub is_content : Run S content
     pub opening : o ≡ length front + length blanks
     pub split : x ≡ front ⧺ blanks ⧺ quote ∷ content
 
   pub record Resting (K : Stack) (f : Frame) (Next : Trees → Type 0) (y : Text) : Type 0 where
     pub holds : Holds (Ready K) y f
     pub separable : Next f.children
-    pub noKey : f.next ≡ unkeyed
+    pub no_key : f.next ≡ unkeyed
 
   abbrev AtFirst : Trees → Type 0
   AtFirst ts = Separator ts []
@@ -140,7 +140,7 @@ module _ (S : ℕ → Bool) where
   whole-good (inside K f) t y {v = v} a val x e =
       let h : Holds (Ready K) a.held f = a.holds in
       let n : ℕ = suc (length h.outer + length h.head) + length h.kids in
-      let heldLong : length a.held ≡ n = ap length h.split ∙ simp length-append (omega arith) in
+      let held_long : length a.held ≡ n = ap length h.split ∙ simp length-append (omega arith) in
       let yLong : length y ≡ n + length a.separator + length a.label = ap length a.split ∙ simp length-append (omega arith) in
       record {
         front = x;
@@ -153,31 +153,31 @@ module _ (S : ℕ → Bool) where
                     head = h.head;
                     kids = h.kids ⧺ a.separator ⧺ a.label ⧺ v;
                     ready = h.ready;
-                    isHead = h.isHead;
+                    is_head = h.is_head;
                     opening = h.opening;
-                    areKids =
-                        one_more h.areKids a.isSeparator
-                        (subst (λ (m : ℕ). Label f.kind m a.label f.next) (ap (λ (m : ℕ). m + length a.separator) heldLong) a.isLabel)
+                    are_kids =
+                        one_more h.are_kids a.is_separator
+                        (subst (λ (m : ℕ). Label f.kind m a.label f.next) (ap (λ (m : ℕ). m + length a.separator) held_long) a.is_label)
                         (subst (λ (m : ℕ). Value S m v t) yLong val);
                     split = rw (e, a.split, h.split) (simp append_assoc);
                   };
               separable = λ b bs. next bs;
-              noKey = refl;
+              no_key = refl;
             };
-        areBlanks = over;
+        are_blanks = over;
         split = sym (append-nil x);
       }
 
-  rekeyed : {Outer : Text → Type 0} {y : Text} {f : Frame} (k : Key) → Holds Outer y f → Holds Outer y (withKey f k)
+  rekeyed : {Outer : Text → Type 0} {y : Text} {f : Frame} (k : Key) → Holds Outer y f → Holds Outer y (with_key f k)
   rekeyed k h =
       record {
         outer = h.outer;
         head = h.head;
         kids = h.kids;
         ready = h.ready;
-        isHead = h.isHead;
+        is_head = h.is_head;
         opening = h.opening;
-        areKids = h.areKids;
+        are_kids = h.are_kids;
         split = h.split;
       }
 
@@ -188,7 +188,7 @@ module _ (S : ℕ → Bool) where
       let q : suc (suc o + length h.kids + length b) ≡ suc p = sym (ap suc (ep ∙ ap (λ (n : ℕ). n + length b) (ap length h.split ∙ simp length-append (omega arith)))) in
       whole-good K (closed f (suc p)) h.outer h.ready
       (subst (Value S (length h.outer) (h.head ⧺ (opener f.kind ∷ h.kids) ⧺ b ⧺ closer f.kind ∷ []))
-      (λ i. container f.kind (sym h.opening i) f.from f.to (q i) f.children) (a-container h.isHead h.areKids bs))
+      (λ i. container f.kind (sym h.opening i) f.from f.to (q i) f.children) (a-container h.is_head h.are_kids bs))
       x (rw (ex, h.split) (simp append_assoc))
 
   child-due : (K : Stack) (f : Frame) (y s x : Text) → Holds (Ready K) y f → Separator f.children s → f.next ≡ unkeyed → x ≡ y ⧺ s → (c : Kind) → f.kind ≡ c → DueAt (child c K f) x
@@ -198,8 +198,8 @@ module _ (S : ℕ → Bool) where
         separator = s;
         label = [];
         holds = h;
-        isSeparator = sep;
-        isLabel = subst₂ (λ (c : Kind) (k : Key). Label c (length y + length s) [] k) (sym ec) (sym nk) in_array;
+        is_separator = sep;
+        is_label = subst₂ (λ (c : Kind) (k : Key). Label c (length y + length s) [] k) (sym ec) (sym nk) in_array;
         split = rw e (simp append-nil);
       }
   child-due K f y s x h sep nk e function ec =
@@ -208,11 +208,11 @@ module _ (S : ℕ → Bool) where
         separator = s;
         label = [];
         holds = h;
-        isSeparator = sep;
-        isLabel = subst₂ (λ (c : Kind) (k : Key). Label c (length y + length s) [] k) (sym ec) (sym nk) in-function;
+        is_separator = sep;
+        is_label = subst₂ (λ (c : Kind) (k : Key). Label c (length y + length s) [] k) (sym ec) (sym nk) in-function;
         split = rw e (simp append-nil);
       }
-  child-due K f y s x h sep nk e object ec = record { isObject = ec; held = y; separator = s; holds = h; isSeparator = sep; split = e }
+  child-due K f y s x h sep nk e object ec = record { is_object = ec; held = y; separator = s; holds = h; is_separator = sep; split = e }
 
   module _ (L : Limits) where
     enter-good : (c : Kind) (K : Stack) (y : Text) {h : Text} {from to : ℕ} → Ready K y → Head c (length y) h from to → (p : ℕ) (x : Text) → p ≡ length y + length h → x ≡ y ⧺ h ⧺ opener c ∷ []
@@ -223,21 +223,21 @@ module _ (S : ℕ → Bool) where
         record {
           front = x;
           blanks = [];
-          areBlanks = over;
+          are_blanks = over;
           split = sym (append-nil x);
           holds =
               record {
-                holds = record { outer = y; head = h; kids = []; ready = r; isHead = hd; opening = ep; areKids = no-child; split = ex };
+                holds = record { outer = y; head = h; kids = []; ready = r; is_head = hd; opening = ep; are_kids = no-child; split = ex };
                 separable = first;
-                noKey = refl;
+                no_key = refl;
               };
         }))
 
-    enterString-good : (K : Stack) (y : Text) {b : Text} → Ready K y → Blanks b → (p : ℕ) (x : Text) → p ≡ length y + length b → x ≡ y ⧺ b ⧺ quote ∷ [] → Good (enterString S L K p) x
-    unfolding enterString
-    enterString-good K y {b = b} r bs p x ep ex =
+    enter_string-good : (K : Stack) (y : Text) {b : Text} → Ready K y → Blanks b → (p : ℕ) (x : Text) → p ≡ length y + length b → x ≡ y ⧺ b ⧺ quote ∷ [] → Good (enter_string S L K p) x
+    unfolding enter_string
+    enter_string-good K y {b = b} r bs p x ep ex =
         by-test (λ u. Good u x) (L.many _) _ _ (λ e. tt)
-        (λ e. record { front = y; blanks = b; content = []; ready = r; areBlanks = bs; isContent = over; opening = ep; split = ex })
+        (λ e. record { front = y; blanks = b; content = []; ready = r; are_blanks = bs; is_content = over; opening = ep; split = ex })
 
     past-good : (w : Due) (y : Text) {l : Text} {from to : ℕ} → DueAt w y → Named (length y) l from to → (p b : ℕ) (x : Text) → p ≡ length y + length l → x ≡ y ⧺ l ⧺ b ∷ []
         → Good (past S L w from to p b) x
@@ -253,7 +253,7 @@ module _ (S : ℕ → Bool) where
         record {
           front = x;
           blanks = [];
-          areBlanks = over;
+          are_blanks = over;
           split = sym (append-nil x);
           holds =
               record {
@@ -261,8 +261,8 @@ module _ (S : ℕ → Bool) where
                 separator = d.separator;
                 label = l ⧺ colon ∷ [];
                 holds = rekeyed (key from to) d.holds;
-                isSeparator = d.isSeparator;
-                isLabel = subst₂ (λ (c : Kind) (m : ℕ). Label c m (l ⧺ colon ∷ []) (key from to)) (sym d.isObject) (ap length d.split ∙ length-append d.held d.separator) (in-object n);
+                is_separator = d.is_separator;
+                is_label = subst₂ (λ (c : Kind) (m : ℕ). Label c m (l ⧺ colon ∷ []) (key from to)) (sym d.is_object) (ap length d.split ∙ length-append d.held d.separator) (in-object n);
                 split = rw (ex, d.split, eqb-true b colon e) (simp append_assoc);
               };
         }) (λ e. tt)
@@ -271,7 +271,7 @@ module _ (S : ℕ → Bool) where
     unfolding bare
     bare-good (value K) y {b = b} d bs p c x ep ex =
         by-test (λ u. Good u x) (eqb c (opener array)) _ _ (λ e. enter-good array K y d (array_head bs) p x ep (at (opener array) e))
-        (λ e. by-test (λ u. Good u x) (eqb c quote) _ _ (λ e'. enterString-good K y d bs p x ep (at quote e'))
+        (λ e. by-test (λ u. Good u x) (eqb c quote) _ _ (λ e'. enter_string-good K y d bs p x ep (at quote e'))
         (λ e'. past-good (value K) y d (subst (λ (n : ℕ). Named (length y) b n n) (sym ep) (nameless bs)) p c x ep ex))
       where
         at : (m : ℕ) → eqb c m ≡ true → x ≡ y ⧺ b ⧺ m ∷ []
@@ -281,9 +281,9 @@ module _ (S : ℕ → Bool) where
     start-good : (w : Due) (y : Text) {b : Text} → DueAt w y → Blanks b → (p c : ℕ) (x : Text) → p ≡ length y + length b → x ≡ y ⧺ b ⧺ c ∷ [] → Good (start S L w p c) x
     unfolding start
     start-good w y {b = b} d bs p c x ep ex =
-        by-test (λ u. Good u x) (blank c) _ _ (λ e. record { front = y; blanks = b ⧺ c ∷ []; holds = d; areBlanks = snoc bs c (passed e); split = ex })
-        (λ e. by-test (λ u. Good u x) (identByte c) _ _
-        (λ e'. record { front = y; blanks = b; i = c; is = []; due = d; areBlanks = bs; isName = byte (passed e') over; begins = ep; split = ex })
+        by-test (λ u. Good u x) (blank c) _ _ (λ e. record { front = y; blanks = b ⧺ c ∷ []; holds = d; are_blanks = snoc bs c (passed e); split = ex })
+        (λ e. by-test (λ u. Good u x) (ident_byte c) _ _
+        (λ e'. record { front = y; blanks = b; i = c; is = []; due = d; are_blanks = bs; is_name = byte (passed e') over; begins = ep; split = ex })
         (λ e'. bare-good w y d bs p c x ep ex))
 
     unquote-good : (K : Stack) (o to p b : ℕ) {z : Text} → Ended (Quoted K o) to z → (x : Text) → p ≡ length z → x ≡ z ⧺ b ∷ [] → Good (unquote S L K o to p b) x
@@ -302,7 +302,7 @@ module _ (S : ℕ → Bool) where
           stem = d.stem;
           blanks = d.blanks ⧺ b ∷ [];
           holds = q;
-          areBlanks = snoc d.areBlanks b (passed e);
+          are_blanks = snoc d.are_blanks b (passed e);
           ends = d.ends;
           split = rw (ex, d.split) (simp append_assoc);
         })
@@ -310,7 +310,7 @@ module _ (S : ℕ → Bool) where
         (λ e'.
         whole-good K (string o to (suc p)) q.front q.ready
         (subst (Value S (length q.front) (q.blanks ⧺ (quote ∷ q.content) ⧺ d.blanks ⧺ quote ∷ []))
-        (λ i. string (sym q.opening i) (ends i) (closes i)) (a-string q.areBlanks q.isContent d.areBlanks))
+        (λ i. string (sym q.opening i) (ends i) (closes i)) (a-string q.are_blanks q.is_content d.are_blanks))
         x (rw (ex, d.split, q.split, eqb-true b quote e') (simp append_assoc)))
         (λ e'. tt))
 
@@ -318,15 +318,15 @@ module _ (S : ℕ → Bool) where
     name_of : (w : Due) (from : ℕ) {z c : Text} (d : Naming w from z) → Blanks c → (to : ℕ) → to ≡ length z → Named (length d.front) (d.blanks ⧺ (d.i ∷ d.is) ⧺ c) from to
     name_of w from {c = c} d cs to e =
         subst₂ (Named (length d.front) (d.blanks ⧺ (d.i ∷ d.is) ⧺ c)) (sym d.begins) (sym (e ∙ ap length d.split ∙ simp length-append (omega arith)))
-        (with-name d.areBlanks d.isName cs)
+        (with-name d.are_blanks d.is_name cs)
 
     -- each step keeps how the bytes are put together
     step-good : (st : State) (z : Text) (b : ℕ) → Partial st z → (x : Text) → x ≡ z ⧺ b ∷ [] → Good (step S L st (length z) b) x
     unfolding step
     step-good (before w) z b d x ex =
-        start-good w d.front d.holds d.areBlanks (length z) b x (ap length d.split ∙ length-append d.front d.blanks) (rw (ex, d.split) (simp append_assoc))
+        start-good w d.front d.holds d.are_blanks (length z) b x (ap length d.split ∙ length-append d.front d.blanks) (rw (ex, d.split) (simp append_assoc))
     step-good (naming w from) z b d x ex =
-        by-test (λ u. Good u x) (identByte b) _ _
+        by-test (λ u. Good u x) (ident_byte b) _ _
         (λ e.
         record {
           front = d.front;
@@ -334,13 +334,13 @@ module _ (S : ℕ → Bool) where
           i = d.i;
           is = d.is ⧺ b ∷ [];
           due = d.due;
-          areBlanks = d.areBlanks;
-          isName = snoc d.isName b (passed e);
+          are_blanks = d.are_blanks;
+          is_name = snoc d.is_name b (passed e);
           begins = d.begins;
           split = rw (ex, d.split) (simp append_assoc);
         })
         (λ e. by-test (λ u. Good u x) (blank b) _ _
-        (λ e'. record { stem = z; blanks = b ∷ []; holds = d; areBlanks = byte (passed e') over; ends = refl; split = ex })
+        (λ e'. record { stem = z; blanks = b ∷ []; holds = d; are_blanks = byte (passed e') over; ends = refl; split = ex })
         (λ e'. past-good w d.front d.due (name_of w from d over (length z) refl) (length z) b x (ap length d.split ∙ simp length-append (omega arith))
         (rw (ex, d.split) (simp append_assoc))))
     step-good (named w from to) z b d x ex =
@@ -351,11 +351,11 @@ module _ (S : ℕ → Bool) where
           stem = d.stem;
           blanks = d.blanks ⧺ b ∷ [];
           holds = m;
-          areBlanks = snoc d.areBlanks b (passed e);
+          are_blanks = snoc d.are_blanks b (passed e);
           ends = d.ends;
           split = rw (ex, d.split) (simp append_assoc);
         })
-        (λ e. past-good w m.front m.due (name_of w from m d.areBlanks to d.ends) (length z) b x
+        (λ e. past-good w m.front m.due (name_of w from m d.are_blanks to d.ends) (length z) b x
         (ap length (d.split ∙ ap (λ (u : Text). u ++ d.blanks) m.split) ∙ simp length-append (omega arith)) (rw (ex, d.split, m.split) (simp append_assoc)))
     step-good (quoted K o) z b d x ex =
         by-test (λ u. Good u x) (S b) _ _
@@ -365,40 +365,40 @@ module _ (S : ℕ → Bool) where
           blanks = d.blanks;
           content = d.content ⧺ b ∷ [];
           ready = d.ready;
-          areBlanks = d.areBlanks;
-          isContent = snoc d.isContent b (passed e);
+          are_blanks = d.are_blanks;
+          is_content = snoc d.is_content b (passed e);
           opening = d.opening;
           split = rw (ex, d.split) (simp append_assoc);
         })
-        (λ e. unquote-good K o (length z) (length z) b (record { stem = z; blanks = []; holds = d; areBlanks = over; ends = refl; split = sym (append-nil z) }) x refl ex)
+        (λ e. unquote-good K o (length z) (length z) b (record { stem = z; blanks = []; holds = d; are_blanks = over; ends = refl; split = sym (append-nil z) }) x refl ex)
     step-good (dropping K o to) z b d x ex = unquote-good K o to (length z) b d x refl ex
     step-good (begun K f) z b d x ex =
         let r : Resting K f AtFirst d.front = d.holds in
         let ep : length z ≡ length d.front + length d.blanks = ap length d.split ∙ length-append d.front d.blanks in
         let ex' : x ≡ d.front ⧺ d.blanks ⧺ b ∷ [] = rw (ex, d.split) (simp append_assoc) in
         by-test (λ u. Good u x) (blank b) _ _
-        (λ e. record { front = d.front; blanks = d.blanks ⧺ b ∷ []; holds = r; areBlanks = snoc d.areBlanks b (passed e); split = ex' })
+        (λ e. record { front = d.front; blanks = d.blanks ⧺ b ∷ []; holds = r; are_blanks = snoc d.are_blanks b (passed e); split = ex' })
         (λ e. by-test (λ u. Good u x) (eqb b (closer f.kind)) _ _
-        (λ e'. close-good K f d.front r.holds d.areBlanks (length z) x ep (ex' ∙ ap (λ (m : ℕ). d.front ⧺ d.blanks ⧺ m ∷ []) (eqb-true b (closer f.kind) e')))
-        (λ e'. start-good (child f.kind K f) d.front (child-due K f d.front [] d.front r.holds r.separable r.noKey (sym (append-nil d.front)) f.kind refl)
-        d.areBlanks (length z) b x ep ex'))
+        (λ e'. close-good K f d.front r.holds d.are_blanks (length z) x ep (ex' ∙ ap (λ (m : ℕ). d.front ⧺ d.blanks ⧺ m ∷ []) (eqb-true b (closer f.kind) e')))
+        (λ e'. start-good (child f.kind K f) d.front (child-due K f d.front [] d.front r.holds r.separable r.no_key (sym (append-nil d.front)) f.kind refl)
+        d.are_blanks (length z) b x ep ex'))
     step-good (after K f) z b d x ex =
         let r : Resting K f AtNext d.front = d.holds in
         let ep : length z ≡ length d.front + length d.blanks = ap length d.split ∙ length-append d.front d.blanks in
         let ex' : x ≡ d.front ⧺ d.blanks ⧺ b ∷ [] = rw (ex, d.split) (simp append_assoc) in
         let at : (m : ℕ) → eqb b m ≡ true → x ≡ d.front ⧺ d.blanks ⧺ m ∷ [] = λ m e. ex' ∙ ap (λ (k : ℕ). d.front ⧺ d.blanks ⧺ k ∷ []) (eqb-true b m e) in
         by-test (λ u. Good u x) (blank b) _ _
-        (λ e. record { front = d.front; blanks = d.blanks ⧺ b ∷ []; holds = r; areBlanks = snoc d.areBlanks b (passed e); split = ex' })
+        (λ e. record { front = d.front; blanks = d.blanks ⧺ b ∷ []; holds = r; are_blanks = snoc d.are_blanks b (passed e); split = ex' })
         (λ e. by-test (λ u. Good u x) (eqb b comma) _ _
         (λ e'.
         record {
           front = x;
           blanks = [];
-          areBlanks = over;
+          are_blanks = over;
           split = sym (append-nil x);
-          holds = child-due K f d.front (d.blanks ⧺ comma ∷ []) x r.holds (r.separable d.blanks d.areBlanks) r.noKey (at comma e') f.kind refl;
+          holds = child-due K f d.front (d.blanks ⧺ comma ∷ []) x r.holds (r.separable d.blanks d.are_blanks) r.no_key (at comma e') f.kind refl;
         })
-        (λ e'. by-test (λ u. Good u x) (eqb b (closer f.kind)) _ _ (λ e''. close-good K f d.front r.holds d.areBlanks (length z) x ep (at (closer f.kind) e'')) (λ e''. tt)))
+        (λ e'. by-test (λ u. Good u x) (eqb b (closer f.kind)) _ _ (λ e''. close-good K f d.front r.holds d.are_blanks (length z) x ep (at (closer f.kind) e'')) (λ e''. tt)))
 
     -- and so does a trace
     pub trace-good : {st st' : State} {p : ℕ} {v : Text} → Trace S L st p v st' → (z : Text) → p ≡ length z → Partial st z → Partial st' (z ++ v)
@@ -436,7 +436,7 @@ module _ (S : ℕ → Bool) (L : Limits) where
   kept_whole : (K : Stack) (t : Tree) → Kept K → Admits L t (level K) (opened K) → KeptStep (whole K t)
   kept_whole root t k a = a
   kept_whole (inside K f) t k a =
-      (k.0, k.1, k.2, (k.3, subst (λ (n : ℕ). Admits L t (suc (level K)) n) (sym (suc-add (opened K) (nodesAll f.children))) a))
+      (k.0, k.1, k.2, (k.3, subst (λ (n : ℕ). Admits L t (suc (level K)) n) (sym (suc-add (opened K) (nodes_all f.children))) a))
 
   kept-enter : (c : Kind) (K : Stack) (from to p : ℕ) → Kept K → KeptStep (enter S L c K from to p)
   unfolding enter
@@ -451,7 +451,7 @@ module _ (S : ℕ → Bool) (L : Limits) where
   kept-past (entry K f) from to p b k = by-test KeptStep (eqb b colon) _ _ (λ e. k) (λ e. tt)
 
   kept-bare : (w : Due) (p b : ℕ) → KeptDue w → KeptStep (bare S L w p b)
-  unfolding bare enterString
+  unfolding bare enter_string
   kept-bare (value K) p b k =
       by-test KeptStep (eqb b (opener array)) _ _ (λ e. kept-enter array K 0 0 p k)
       (λ e. by-test KeptStep (eqb b quote) _ _ (λ e'. by-test KeptStep (L.many (opened K)) _ _ (λ m. tt) (λ m. (k, m))) (λ e'. kept-past (value K) p p p b k))
@@ -459,7 +459,7 @@ module _ (S : ℕ → Bool) (L : Limits) where
 
   kept-start : (w : Due) (p b : ℕ) → KeptDue w → KeptStep (start S L w p b)
   unfolding start
-  kept-start w p b k = by-test KeptStep (blank b) _ _ (λ e. k) (λ e. by-test KeptStep (identByte b) _ _ (λ e'. k) (λ e'. kept-bare w p b k))
+  kept-start w p b k = by-test KeptStep (blank b) _ _ (λ e. k) (λ e. by-test KeptStep (ident_byte b) _ _ (λ e'. k) (λ e'. kept-bare w p b k))
 
   kept-unquote : (K : Stack) (o to p b : ℕ) → Kept K × (L.many (opened K) ≡ false) → KeptStep (unquote S L K o to p b)
   unfolding unquote
@@ -476,7 +476,7 @@ module _ (S : ℕ → Bool) (L : Limits) where
   kept_step : (st : State) (p b : ℕ) → KeptState st → KeptStep (step S L st p b)
   unfolding step
   kept_step (before w) p b k = kept-start w p b k
-  kept_step (naming w from) p b k = by-test KeptStep (identByte b) _ _ (λ e. k) (λ e. by-test KeptStep (blank b) _ _ (λ e'. k) (λ e'. kept-past w from p p b k))
+  kept_step (naming w from) p b k = by-test KeptStep (ident_byte b) _ _ (λ e. k) (λ e. by-test KeptStep (blank b) _ _ (λ e'. k) (λ e'. kept-past w from p p b k))
   kept_step (named w from to) p b k = by-test KeptStep (blank b) _ _ (λ e. k) (λ e. kept-past w from to p b k)
   kept_step (quoted K o) p b k = by-test KeptStep (S b) _ _ (λ e. k) (λ e. kept-unquote K o p p b k)
   kept_step (dropping K o to) p b k = kept-unquote K o to p b k
@@ -511,7 +511,7 @@ pub record Reads (S : ℕ → Bool) (x : Text) (t : Tree) (q : ℕ) : Type 0 whe
 accepts-reads : (S : ℕ → Bool) (L : Limits) (x : Text) (t : Tree) (q : ℕ) → Accepts S L (before (value root)) 0 x t q → Reads S x t q
 accepts-reads S L x t q a =
     let v : Text = a.before in
-    let g : Partial S a.state v = trace-good S L a.trace [] refl (record { front = []; blanks = []; holds = refl; areBlanks = over; split = refl }) in
+    let g : Partial S a.state v = trace-good S L a.trace [] refl (record { front = []; blanks = []; holds = refl; are_blanks = over; split = refl }) in
     let at : length v ≡ 0 + length v = omega arith in
     record {
       value = v ++ a.last ∷ [];
@@ -525,7 +525,7 @@ pub sound : (S : ℕ → Bool) (L : Limits) (x : Text) (t : Tree) (q : ℕ) → 
 sound S L x t q e = accepts-reads S L x t q (subst (Ends S L (before (value root)) 0 x) e (ends S L (before (value root)) 0 x))
 
 -- the limits of SPEC.md are kept
-pub within : (S : ℕ → Bool) (x : Text) (t : Tree) (q : ℕ) → read S limits x ≡ accepted t q → (depth t ≤ maxDepth) × (nodes t ≤ maxNodes)
+pub within : (S : ℕ → Bool) (x : Text) (t : Tree) (q : ℕ) → read S limits x ≡ accepted t q → (depth t ≤ max_depth) × (nodes t ≤ max_nodes)
 within S x t q e =
-    let h : (0 + depth t ≤ maxDepth) × (0 + nodes t ≤ maxNodes) = admits-fits t 0 0 (omega arith) (omega arith) (admitted S limits x t q e) in
+    let h : (0 + depth t ≤ max_depth) × (0 + nodes t ≤ max_nodes) = admits-fits t 0 0 (omega arith) (omega arith) (admitted S limits x t q e) in
     omega arith

@@ -2,7 +2,7 @@
 use Rattle.create_cel_expr.proofs.Sizes.{gave-23, gave-24, measured-fits, gave-written}
 use lib.Dec.{lit≤}
 use Rattle.cel_policy.specs.Policy.{numbers}
-use Rattle.create_cel_expr.specs.Given.{policyOf}
+use Rattle.create_cel_expr.specs.Given.{policy_of}
 use Rattle.create_cel_expr.proofs.Judgings.{judges-small, judges-inside, judges-few, gave-faulty, gave-clean}
 use Rattle.create_cel_expr.proofs.print_judged.Statement.{statement}
 use Rattle.create_cel_expr.proofs.print_judged.Tie as tie
@@ -41,7 +41,7 @@ returns-2 c =
     let e = c.before.before.before.enum_told in
     let l = c.before.before.printed-length in
     gave-clean (numbers a.policy) a.spans.now a.text.now a.judged a.out.now e.given.1
-    (gave-23 (policyOf a.policy a.text.now a.spans.now) a.out.now l.ensures c.before.if1.true c.refused2.ensures)
+    (gave-23 (policy_of a.policy a.text.now a.spans.now) a.out.now l.ensures c.before.if1.true c.refused2.ensures)
 
 refused-requires-3 : tie.Need-refused-requires-3
 refused-requires-3 c κs = lit≤ tt
@@ -52,14 +52,14 @@ returns-3 c =
     let e = c.before.before.before.before.enum_told in
     let l = c.before.before.before.printed-length in
     gave-clean (numbers a.policy) a.spans.now a.text.now a.judged a.out.now e.given.1
-    (gave-24 (policyOf a.policy a.text.now a.spans.now) a.out.now l.ensures c.before.before.if1.false c.before.if2.true c.refused3.ensures)
+    (gave-24 (policy_of a.policy a.text.now a.spans.now) a.out.now l.ensures c.before.before.if1.false c.before.if2.true c.refused3.ensures)
 
 create-cel-expr-requires : tie.Need-create-cel-expr-requires
 create-cel-expr-requires c κs =
     let s = c.before.before.before.before.before.before.before.before.before in
     let a = s.args in (
       judges-inside (numbers a.policy) a.spans.now a.text.now s.requires c.before.before.before.before.enum_told.given.1,
-      measured-fits (policyOf a.policy a.text.now a.spans.now) a.out.now c.before.before.before.printed-length.ensures c.before.if2.false,
+      measured-fits (policy_of a.policy a.text.now a.spans.now) a.out.now c.before.before.before.printed-length.ensures c.before.if2.false,
     )
 
 cast-t13 : tie.Need-overflow-cast-t13
@@ -75,7 +75,7 @@ returns-4 c =
     let l = c.before.before.before.before.before.before.printed-length in
     let t = c.before.before.before.before in
     gave-clean (numbers a.policy) a.spans.now a.text.now a.judged a.out.now e.given.1
-    (gave-written (policyOf a.policy a.text.now a.spans.now) a.out.now l.ensures t.before.if1.false t.if2.false c.before.before.create-cel-expr.ensures)
+    (gave-written (policy_of a.policy a.text.now a.spans.now) a.out.now l.ensures t.before.if1.false t.if2.false c.before.before.create-cel-expr.ensures)
 
 pub print-judged-spec : {M : Type 1} → statement M
 print-judged-spec =

@@ -3,28 +3,28 @@ use Rattle.lines.specs.Texts.{pair}
 use mathlib.Core.Path.{sym, ap}
 use lib.ListN.{length}
 use Rattle.cel_text.specs.Byte.{Text}
-use Rattle.page.specs.Page.{shownByte}
+use Rattle.page.specs.Page.{shown_byte}
 use Rattle.page.proofs.Bytes.{shown-plain, shown-low, shown-high}
 use Rattle.page.proofs.columns.Statement.{statement}
 use Rattle.page.proofs.columns.Tie as tie
 
 returns : tie.Need-returns
-unfolding shownByte
+unfolding shown_byte
 returns c =
     rw c.match.keys1
 
 returns-2 : tie.Need-returns-2
-unfolding shownByte
+unfolding shown_byte
 returns-2 c =
     rw c.match.keys2
 
 returns-3 : tie.Need-returns-3
-unfolding shownByte
+unfolding shown_byte
 returns-3 c =
     rw c.match.keys3
 
 returns-4 : tie.Need-returns-4
-unfolding shownByte
+unfolding shown_byte
 returns-4 c =
     rw c.match.keys4
 

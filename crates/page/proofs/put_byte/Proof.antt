@@ -1,6 +1,6 @@
 -- `put_byte` meets its contract: by the cases of a byte. Assumes nothing.
 use mathlib.Core.Logic.{⊎_elim}
-use Rattle.page.specs.Page.{shownByte}
+use Rattle.page.specs.Page.{shown_byte}
 use Rattle.page.proofs.Bytes.{shown-plain, shown-low, shown-high}
 use borrow.Author.Rules.{rules}
 use Rattle.page.proofs.put_byte.Statement.{statement}
@@ -40,7 +40,7 @@ same_length : tie.Need-same-length
 same_length c = search rules
 
 returns : tie.Need-returns
-unfolding shownByte
+unfolding shown_byte
 returns c =
     rw c.before.before.before.before.before.match.keys1 c.before.before.put.ensures
 
@@ -48,7 +48,7 @@ same-length-2 : tie.Need-same-length-2
 same-length-2 c = search rules
 
 returns-2 : tie.Need-returns-2
-unfolding shownByte
+unfolding shown_byte
 returns-2 c =
     rw c.before.before.before.before.before.match.keys2 c.before.before.put2.ensures
 
@@ -56,7 +56,7 @@ same-length-3 : tie.Need-same-length-3
 same-length-3 c = search rules
 
 returns-3 : tie.Need-returns-3
-unfolding shownByte
+unfolding shown_byte
 returns-3 c =
     rw c.before.before.before.before.before.match.keys3 c.before.before.put3.ensures
 
@@ -64,7 +64,7 @@ same-length-4 : tie.Need-same-length-4
 same-length-4 c = search rules
 
 returns-4 : tie.Need-returns-4
-unfolding shownByte
+unfolding shown_byte
 returns-4 c =
     rw c.before.before.before.before.before.match.keys4 c.before.before.put4.ensures
 

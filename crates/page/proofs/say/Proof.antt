@@ -6,7 +6,7 @@ use lib.ListN.{length, take}
 use lib.Seq.{take_all}
 use Rattle.pieces.specs.Pieces.{Wrote}
 use Rattle.pieces.specs.Laws.{wrote_none, wrote_then, wrote-length}
-use Rattle.page.specs.Page.{said, saidByte}
+use Rattle.page.specs.Page.{said, said_byte}
 use Rattle.page.proofs.Bytes.{flat-more}
 use Rattle.page.proofs.say.Statement.{statement}
 use Rattle.page.proofs.say.Tie as tie
@@ -40,7 +40,7 @@ loop-again c =
     let s = c.before.before.before.before.before.before.before.before.before in
     let l = c.before.before.before.before.before.before.loop in
     let h = c.before.before.before.before.before.loop-test.true in
-    (rw (← flat-more (saidByte s.args.n) s.args.words.now l.i h) (wrote_then l.invariant.0 c.before.before.say-byte.ensures), omega arith)
+    (rw (← flat-more (said_byte s.args.n) s.args.words.now l.i h) (wrote_then l.invariant.0 c.before.before.say-byte.ensures), omega arith)
 
 same_length : tie.Need-same-length invariant-loop decreases-loop
 same_length c = wrote-length c.before.loop.invariant.0

@@ -1,6 +1,6 @@
 -- `say_byte` meets its contract: by the cases of a byte. Assumes nothing.
 use borrow.Author.Tests.{ne_eqb}
-use Rattle.page.specs.Page.{saidByte}
+use Rattle.page.specs.Page.{said_byte}
 use borrow.Author.Rules.{rules}
 use Rattle.page.proofs.say_byte.Statement.{statement}
 use Rattle.page.proofs.say_byte.Tie as tie
@@ -21,7 +21,7 @@ same_length : tie.Need-same-length
 same_length c = search rules
 
 returns : tie.Need-returns
-unfolding saidByte
+unfolding said_byte
 returns c =
     rw c.before.before.before.before.before.match.keys1 c.before.before.put.ensures
 
@@ -29,7 +29,7 @@ same-length-2 : tie.Need-same-length-2
 same-length-2 c = search rules
 
 returns-2 : tie.Need-returns-2
-unfolding saidByte
+unfolding said_byte
 returns-2 c =
     rw c.before.before.before.before.match.keys2 c.before.before.put-number.ensures
 
@@ -37,7 +37,7 @@ same-length-3 : tie.Need-same-length-3
 same-length-3 c = search rules
 
 returns-3 : tie.Need-returns-3
-unfolding saidByte
+unfolding said_byte
 returns-3 c =
     let b = c.before.before.before.before.before.before.args.b in
     let m = c.before.before.before.before.match.rest in

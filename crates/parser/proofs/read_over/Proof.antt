@@ -2,9 +2,9 @@
 -- Assumes nothing.
 use Rattle.std.proofs.Common.{◌≡◌, ◌≤◌, ◌++◌, length, drop, sym, ap, ◌∙◌, arith, length-take-le, rules}
 use lib.Seq.{length_front}
-use Rattle.cel_text.specs.Table.{nodeWords, nodesLeft}
+use Rattle.cel_text.specs.Table.{node_words, nodes_left}
 use Rattle.cel_text.specs.Answer.{Answer}
-use Rattle.parser.specs.Found.{staleFrom}
+use Rattle.parser.specs.Found.{stale_from}
 use Rattle.parser.proofs.Answers.{small, find-answer, find-over, answer-short, over-short}
 use Rattle.parser.proofs.read_over.Statement.{statement}
 use Rattle.parser.proofs.read_over.Tie as tie
@@ -22,10 +22,10 @@ slice-relend-prefix-find : tie.Need-slice-relend-prefix-find
 slice-relend-prefix-find c = search rules
 
 slice-aggregate-find : tie.Need-slice-aggregate-find
-slice-aggregate-find c = sym (length-take-le nodeWords c.before.before.before.before.args.table.now c.before.if1.false)
+slice-aggregate-find c = sym (length-take-le node_words c.before.before.before.before.args.table.now c.before.if1.false)
 
 find-requires : tie.Need-find-requires
-find-requires c κs = length-take-le nodeWords c.before.before.before.before.args.table.now c.before.if1.false
+find-requires c κs = length-take-le node_words c.before.before.before.before.args.table.now c.before.if1.false
 
 answer-of-requires : tie.Need-answer-of-requires
 answer-of-requires c κs = small _ _ _ c.before.before.find.result c.before.before.find.ensures
@@ -37,9 +37,9 @@ slice-aggregate-clear : tie.Need-slice-aggregate-clear
 slice-aggregate-clear c =
     let w = c.before.before.before.before.before.before.before.before.before.args.table.now in
     let w' = c.before.before.before.before.find.new.1.0 in
-    let long : length (w' ++ drop nodeWords w) ≡ length w = length_front w w' nodeWords c.before.before.before.before.find.auto.1.0 in
-    let room : nodeWords ≤ length (w' ++ drop nodeWords w) = omega (arith, c.before.before.before.before.before.before.if1.false) in
-    sym (length-take-le nodeWords (w' ++ drop nodeWords w) room)
+    let long : length (w' ++ drop node_words w) ≡ length w = length_front w w' node_words c.before.before.before.before.find.auto.1.0 in
+    let room : node_words ≤ length (w' ++ drop node_words w) = omega (arith, c.before.before.before.before.before.before.if1.false) in
+    sym (length-take-le node_words (w' ++ drop node_words w) room)
 
 stale-requires : tie.Need-stale-requires
 stale-requires c κs = search rules
@@ -57,7 +57,7 @@ returns-2 c =
     let h = c.before.before.before.before.before.before.before.before.before.before.if1.false in
     let f = c.before.before.before.before.before.before.before.before.find in
     let a = c.before.before.before.before.before.answer-of.ensures in
-    let e = c.before.before.before.stale.ensures ∙ ap (λ (r : Answer). staleFrom (nodesLeft r.refusal)) a in (
+    let e = c.before.before.before.stale.ensures ∙ ap (λ (r : Answer). stale_from (nodes_left r.refusal)) a in (
       a ∙ find-answer x w h f.new.1.0 f.result f.ensures,
       find-over x w h f.new.1.0 f.result f.ensures f.auto.1.0 _ e c.before.before.clear.new.0
           c.before.before.clear.ensures,

@@ -1,7 +1,7 @@
 -- `read_tree` meets its contract: to read over the cleared words is to read. Assumes nothing.
 use Rattle.std.proofs.Common.{◌≡◌, ◌++◌, length, take, drop, sym, ap, ◌∙◌, length-take-le, rules}
-use Rattle.cel_text.specs.Table.{Words, nodeWords}
-use Rattle.cel_text.specs.Answer.{treeAnswer, treeOver}
+use Rattle.cel_text.specs.Table.{Words, node_words}
+use Rattle.cel_text.specs.Answer.{tree_answer, tree_over}
 use Rattle.cel_text.specs.Laws.Table.{clean, over-cleared, answer-cleared}
 use Rattle.parser.proofs.Answers.{clear-all, answer-short, table-short}
 use Rattle.parser.proofs.read_tree.Statement.{statement}
@@ -20,7 +20,7 @@ slice-relend-prefix-clear : tie.Need-slice-relend-prefix-clear
 slice-relend-prefix-clear c = search rules
 
 slice-aggregate-clear : tie.Need-slice-aggregate-clear
-slice-aggregate-clear c = sym (length-take-le nodeWords c.before.before.before.before.args.table.now c.before.if1.false)
+slice-aggregate-clear c = sym (length-take-le node_words c.before.before.before.before.args.table.now c.before.if1.false)
 
 clear-requires : tie.Need-clear-requires
 clear-requires c κs = search rules
@@ -37,9 +37,9 @@ returns-2 c =
     let w = c.before.before.before.before.before.before.before.before.before.before.before.args.table.now in
     let h = c.before.before.before.before.before.before.before.before.if1.false in
     let r = c.before.before.read-over.ensures in
-    let v : c.before.before.before.before.before.before.clear.new.0 ++ drop nodeWords w ≡ clean x w h
-    = ap (λ (l : Words). l ++ drop nodeWords w) (c.before.before.before.before.before.before.clear.ensures ∙ clear-all (take nodeWords w) nodeWords (length-take-le nodeWords w h)) in
-    (r.0 ∙ ap (λ (l : Words). treeAnswer (length l) x) v ∙ answer-cleared x w h, r.1 ∙ ap (treeOver x) v ∙ over-cleared x w h)
+    let v : c.before.before.before.before.before.before.clear.new.0 ++ drop node_words w ≡ clean x w h
+    = ap (λ (l : Words). l ++ drop node_words w) (c.before.before.before.before.before.before.clear.ensures ∙ clear-all (take node_words w) node_words (length-take-le node_words w h)) in
+    (r.0 ∙ ap (λ (l : Words). tree_answer (length l) x) v ∙ answer-cleared x w h, r.1 ∙ ap (tree_over x) v ∙ over-cleared x w h)
 
 pub read-tree-spec : {M : Type 1} → statement M
 read-tree-spec =

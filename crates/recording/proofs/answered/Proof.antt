@@ -3,7 +3,7 @@ use mathlib.Core.Path.{ap}
 use Prim.Native.Nat.{◌+◌}
 use Rattle.recording.specs.declared.State.{State}
 use Rattle.recording.specs.declared.Why.TheVariants.{Full}
-use Rattle.recording.specs.Steps.{turnAt}
+use Rattle.recording.specs.Steps.{turn_at}
 use borrow.Author.Rules.{rules}
 use Rattle.recording.proofs.answered.Statement.{statement}
 use Rattle.recording.proofs.answered.Tie as tie
@@ -24,7 +24,7 @@ returns : tie.Need-returns
 returns c =
     let a = c.before.before.before.before.before.before.before.before.args in
     let p = c.before.before.before.before.put-line in
-    record { turn = ap (λ (s : State). turnAt s (a.turn.used + a.to) p.result Full) c.before.count-in.ensures; wrote = p.ensures }
+    record { turn = ap (λ (s : State). turn_at s (a.turn.used + a.to) p.result Full) c.before.count-in.ensures; wrote = p.ensures }
 
 pub answered-spec : {M : Type 1} → statement M
 answered-spec =

@@ -3,8 +3,8 @@ use mathlib.Core.Path.{◌≡◌, sym, subst, ◌∙◌}
 use Prim.Native.Nat.{ℕ, ◌-◌}
 use lib.ListN.{length}
 use borrow.Author.Tests.{not-true, not-false}
-use Rattle.cel_text.specs.Table.{nodeWords}
-use Rattle.cel_policy.specs.Spans.{spanWords}
+use Rattle.cel_text.specs.Table.{node_words}
+use Rattle.cel_policy.specs.Spans.{span_words}
 use Rattle.pieces.specs.Laws.{wrote-length}
 use Rattle.recording.specs.Steps.{Counts}
 use Rattle.recording.proofs.Turns.{Going, going-first, going-used, going-written, going-counts, rest-length, went, went-less, going_next, drained-stop, drained-full}
@@ -13,7 +13,7 @@ use Rattle.recording.proofs.drain.Tie as tie
 use native.Mathlib.Omega.{arith}
 
 abbrev invariant-loop : tie.invariant-loop
-invariant-loop held ended out₀ nodes₀ spans₀ turn₀ out nodes spans turn = Going turn₀.state held ended out₀ out turn × (length nodes ≡ nodeWords) × (length spans ≡ spanWords)
+invariant-loop held ended out₀ nodes₀ spans₀ turn₀ out nodes spans turn = Going turn₀.state held ended out₀ out turn × (length nodes ≡ node_words) × (length spans ≡ span_words)
 
 abbrev decreases-loop : tie.decreases-loop
 decreases-loop held ended out₀ nodes₀ spans₀ turn₀ out nodes spans turn = length held - turn.used

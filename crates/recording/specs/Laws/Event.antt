@@ -6,9 +6,9 @@ use Rattle.std.proofs.Math.Seq.{drop-append-add, drop-length}
 use Rattle.std.proofs.lemmas.Bool.{eqb-false}
 use borrow.Table.Steps.{cases}
 use Rattle.cel_text.specs.Byte.{Text}
-use Rattle.cel_text.specs.Answer.{maxText}
+use Rattle.cel_text.specs.Answer.{max_text}
 use Rattle.cel_text.specs.Laws.Class.{by-test}
-use Rattle.cel_policy.specs.Answers.{policyAnswer}
+use Rattle.cel_policy.specs.Answers.{policy_answer}
 use Rattle.groups.specs.declared.Number.{Number}
 use Rattle.groups.specs.declared.Number.TheVariants.{Whole, Cut, Padded, TooMany}
 use Rattle.groups.specs.Groups.{number}
@@ -18,14 +18,14 @@ use Rattle.recording.specs.declared.Reply.{Reply}
 use Rattle.recording.specs.declared.State.{State}
 use Rattle.recording.specs.declared.window.Event.{Event}
 use Rattle.recording.specs.declared.window.Event.TheVariants.{Body, Skipping, Skipped, Wanting, Last}
-use Rattle.recording.specs.Replay.{bodyThen, recordThen, records, line, lastLine, replyTo, tooLong, refusals, lines_of}
-use Rattle.recording.specs.Window.{unless, lengthEvent, skipEvent, event, says, takes, becomes, goes, owedPast, owed, owedAs}
+use Rattle.recording.specs.Replay.{body_then, record_then, records, line, last_line, reply_to, too_long, refusals, lines_of}
+use Rattle.recording.specs.Window.{unless, length_event, skip_event, event, says, takes, becomes, goes, owed_past, owed, owed_as}
 use Rattle.recording.specs.Laws.Records.{records-next, records-number}
 
 -- a body of more than 8,192 bytes is answered with 2, whatever its bytes are
-pub reply-long : (t : Text) → maxText < length t → replyTo t ≡ tooLong
-unfolding replyTo policyAnswer
-reply-long t h = rw (lt-ltb maxText (length t) h)
+pub reply-long : (t : Text) → max_text < length t → reply_to t ≡ too_long
+unfolding reply_to policy_answer
+reply-long t h = rw (lt-ltb max_text (length t) h)
 
 -- ---- nothing is lost
 
@@ -34,29 +34,29 @@ at i r k = record { count = i; refused = r; skip = k }
 
 -- the event e of the bytes w is right, whatever bytes y come after them
 abbrev Right : State → (w y : Text) → Event → Type 0
-Right s w y e = owed s (w ++ y) ≡ says s w e ++ owedAs (goes e) (becomes s w e) (drop (takes e) w ++ y)
+Right s w y e = owed s (w ++ y) ≡ says s w e ++ owed_as (goes e) (becomes s w e) (drop (takes e) w ++ y)
 
 -- a long record's body, all of it still to be skipped
-past-long : (i r n : ℕ) (z : Text) (t : Bool) → ltb (length z) n ≡ t → maxText < n → lines_of i r (bodyThen records n z t) ≡ owedPast i r n z t
+past-long : (i r n : ℕ) (z : Text) (t : Bool) → ltb (length z) n ≡ t → max_text < n → lines_of i r (body_then records n z t) ≡ owed_past i r n z t
 past-long i r n z true e h = refl
 past-long i r n z false e h =
     let l : length (take n z) ≡ n = length-take-le n z (ltb-false (length z) n e) in
-    let a : replyTo (take n z) ≡ tooLong = reply-long (take n z) (rw l h) in
+    let a : reply_to (take n z) ≡ too_long = reply-long (take n z) (rw l h) in
     ap (λ (b : Reply). line i b ++ lines_of (suc i) (refusals r b) (records (drop n z))) a
 
 -- between two records
 module _ (i r : ℕ) (w y : Text) where
   whole-record :
       (n size : ℕ) → number w ≡ Whole n size
-      → lines_of i r (records (w ++ y)) ≡ lines_of i r (bodyThen records n (drop size w ++ y) (ltb (length (drop size w ++ y)) n))
+      → lines_of i r (records (w ++ y)) ≡ lines_of i r (body_then records n (drop size w ++ y) (ltb (length (drop size w ++ y)) n))
   whole-record n size e =
       let f : Fits 2 (length w) (Whole n size) = subst (Fits 2 (length w)) e (number_fits w) in
       let a : number (w ++ y) ≡ Whole n size = number_append w y (rw e tt) ∙ e in
       let p : 1 ≤ length (w ++ y) = simp length-append (omega (arith, f.0, f.1)) in
       let d : drop size (w ++ y) ≡ drop size w ++ y = drop-append-le size w y f.1 in
-      ap (lines_of i r) (records-number (w ++ y) (Whole n size) a p) ∙ ap (λ (z : Text). lines_of i r (bodyThen records n z (ltb (length z) n))) d
+      ap (lines_of i r) (records-number (w ++ y) (Whole n size) a p) ∙ ap (λ (z : Text). lines_of i r (body_then records n z (ltb (length z) n))) d
 
-  long-right : (n size : ℕ) → number w ≡ Whole n size → maxText < n → Right (at i r 0) w y (Skipping size n)
+  long-right : (n size : ℕ) → number w ≡ Whole n size → max_text < n → Right (at i r 0) w y (Skipping size n)
   long-right n size e h =
       whole-record n size e ∙ rw (ne_eqb n 0 (λ q. omega arith)) (past-long i r n (drop size w ++ y) (ltb (length (drop size w ++ y)) n) refl h)
 
@@ -76,11 +76,11 @@ module _ (i r : ℕ) (w y : Text) where
       whole-record n size e ∙ rw (le-ltb (length (drop size w ++ y)) n l, t, d, m)
 
   fault-right :
-      (q : Number) → number w ≡ q → Settled q → 1 ≤ length w → lines_of i r (recordThen records (w ++ y) q) ≡ lastLine i r BrokenLength
+      (q : Number) → number w ≡ q → Settled q → 1 ≤ length w → lines_of i r (record_then records (w ++ y) q) ≡ last_line i r BrokenLength
       → Right (at i r 0) w y (Last BrokenLength)
   fault-right q e h p g =
       let a : number (w ++ y) ≡ q = number_append w y (rw e h) ∙ e in
-      ap (lines_of i r) (records-number (w ++ y) q a (simp length-append (omega arith))) ∙ g ∙ sym (append-nil (lastLine i r BrokenLength))
+      ap (lines_of i r) (records-number (w ++ y) q a (simp length-append (omega arith))) ∙ g ∙ sym (append-nil (last_line i r BrokenLength))
 
   cut_right : number w ≡ Cut → 1 ≤ length w → y ≡ [] → Right (at i r 0) w y (Last BrokenLength)
   cut_right e p z = rw (z, append-nil, append-nil) (ap (lines_of i r) (records-number w Cut e p))
@@ -94,10 +94,10 @@ module _ (i r : ℕ) (w y : Text) (ended : Bool) (no_more : ended ≡ true → y
   abbrev R : Event → Type 0
   R = Right (at i r 0) w y
 
-  number-right : (q : Number) → number w ≡ q → R (lengthEvent (length w) ended q)
+  number-right : (q : Number) → number w ≡ q → R (length_event (length w) ended q)
   number-right (Whole n size) e =
-      by-test R (ltb maxText n) (Skipping size n) (cond (ltb (length w) (size + n)) (unless ended (Last BrokenBody)) (Body size (size + n)))
-      (λ t. long-right i r w y n size e (ltb-true maxText n t))
+      by-test R (ltb max_text n) (Skipping size n) (cond (ltb (length w) (size + n)) (unless ended (Last BrokenBody)) (Body size (size + n)))
+      (λ t. long-right i r w y n size e (ltb-true max_text n t))
       (λ t. by-test R (ltb (length w) (size + n)) (unless ended (Last BrokenBody)) (Body size (size + n))
       (λ u. by-test R ended (Last BrokenBody) Wanting (λ v. short-right i r w y n size e (ltb-true (length w) (size + n) u) (no_more v)) (λ v. refl))
       (λ u. body-right i r w y n size e (ltb-false (length w) (size + n) u)))
@@ -112,7 +112,7 @@ module _ (i r : ℕ) (w y : Text) (ended : Bool) (no_more : ended ≡ true → y
 
 -- inside a record that is skipped
 module _ (i r k : ℕ) (w y : Text) (some : k ≡ 0 → ⊥) where
-  owed-past : (x : Text) → owed (at i r k) x ≡ owedPast i r k x (ltb (length x) k)
+  owed-past : (x : Text) → owed (at i r k) x ≡ owed_past i r k x (ltb (length x) k)
   owed-past x = rw (ne_eqb k 0 some)
 
   skip-short : length w < k → y ≡ [] → Right (at i r k) w y (Last BrokenBody)
@@ -122,7 +122,7 @@ module _ (i r k : ℕ) (w y : Text) (some : k ≡ 0 → ⊥) where
   skip-over l = owed-past (w ++ y) ∙ rw (le-ltb (length (w ++ y)) k (simp length-append (omega arith)), drop-append-le k w y l)
 
   -- the same bytes are still short, and the same rest is left
-  past-held : length w < k → (t : Bool) → owedPast i r k (w ++ y) t ≡ owedPast i r (k - length w) (drop (length w) w ++ y) t
+  past-held : length w < k → (t : Bool) → owed_past i r k (w ++ y) t ≡ owed_past i r (k - length w) (drop (length w) w ++ y) t
   past-held l true = refl
   past-held l false =
       let q : k ≡ length w + (k - length w) = omega arith in
@@ -140,7 +140,7 @@ module _ (i r k : ℕ) (w y : Text) (some : k ≡ 0 → ⊥) where
       ∙ sym (le-ltb (length (drop (length w) w ++ y)) (k - length w) (rw drop-length (omega (arith, length-append w y, ltb-false (length (w ++ y)) k e))))) in
       owed-past (w ++ y) ∙ past-held l (ltb (length (w ++ y)) k) ∙ rw (t, ne_eqb (k - length w) 0 z)
 
-  skip-right : (ended : Bool) → (ended ≡ true → y ≡ []) → Right (at i r k) w y (skipEvent k (length w) ended)
+  skip-right : (ended : Bool) → (ended ≡ true → y ≡ []) → Right (at i r k) w y (skip_event k (length w) ended)
   skip-right ended no_more =
       by-test (Right (at i r k) w y) (ltb (length w) k)
       (cond ended (Last BrokenBody) (cond (eqb (length w) 0) Wanting (Skipping (length w) (k - length w)))) (Skipped k)
@@ -155,39 +155,39 @@ module _ (i r k : ℕ) (w y : Text) (some : k ≡ 0 → ⊥) where
 pub event-right : (s : State) (w y : Text) (ended : Bool) → (ended ≡ true → y ≡ []) → Right s w y (event s.skip w ended)
 unfolding event
 event-right s w y ended no_more =
-    by-test (Right s w y) (eqb s.skip 0) (lengthEvent (length w) ended (number w)) (skipEvent s.skip (length w) ended)
+    by-test (Right s w y) (eqb s.skip 0) (length_event (length w) ended (number w)) (skip_event s.skip (length w) ended)
     (λ t. zero_right s.skip (eqb-true s.skip 0 t))
     (λ t. skip-right s.count s.refused s.skip w y (eqb-false s.skip 0 t) ended no_more)
   where
-    zero_right : (k : ℕ) → k ≡ 0 → Right (at s.count s.refused k) w y (lengthEvent (length w) ended (number w))
+    zero_right : (k : ℕ) → k ≡ 0 → Right (at s.count s.refused k) w y (length_event (length w) ended (number w))
     zero_right k e = rw e (number-right s.count s.refused w y ended no_more (number w) refl)
 
 -- ---- each event takes bytes, ends the run or wants more
 
 -- the most bytes that want more: two groups and a body of 8,192 bytes, one byte of which is missing, and a byte
-abbrev pub mostHeld : ℕ
-mostHeld = 8194
+abbrev pub most_held : ℕ
+most_held = 8194
 
 -- where the parts of an event lie, and how few bytes want more
 abbrev pub Moves : (held : ℕ) → (ended : Bool) → Event → Type 0
 Moves held ended (Body from to) = (from ≤ to) × (1 ≤ to) × (to ≤ held)
 Moves held ended (Skipping to left) = (1 ≤ to) × (to ≤ held)
 Moves held ended (Skipped to) = (1 ≤ to) × (to ≤ held)
-Moves held ended Wanting = (ended ≡ false) × (held ≤ mostHeld)
+Moves held ended Wanting = (ended ≡ false) × (held ≤ most_held)
 Moves held ended (Last e) = Unit
 
 module _ (w : Text) (ended : Bool) where
   abbrev M : Event → Type 0
   M = Moves (length w) ended
 
-  length-moves : (q : Number) → Fits 2 (length w) q → M (lengthEvent (length w) ended q)
+  length-moves : (q : Number) → Fits 2 (length w) q → M (length_event (length w) ended q)
   length-moves (Whole n size) f =
-      by-test M (ltb maxText n) (Skipping size n) (cond (ltb (length w) (size + n)) (unless ended (Last BrokenBody)) (Body size (size + n)))
+      by-test M (ltb max_text n) (Skipping size n) (cond (ltb (length w) (size + n)) (unless ended (Last BrokenBody)) (Body size (size + n)))
       (λ t. (f.0, f.1))
       (λ t. by-test M (ltb (length w) (size + n)) (unless ended (Last BrokenBody)) (Body size (size + n))
       (λ u. by-test M ended (Last BrokenBody) Wanting
       (λ v. tt)
-      (λ v. (v, omega (arith, f.2, ltb-false maxText n t, ltb-true (length w) (size + n) u))))
+      (λ v. (v, omega (arith, f.2, ltb-false max_text n t, ltb-true (length w) (size + n) u))))
       (λ u. (omega arith, omega (arith, f.0), ltb-false (length w) (size + n) u)))
   length-moves Cut f =
       by-test M ended (cond (eqb (length w) 0) (Last Complete) (Last BrokenLength)) Wanting
@@ -196,7 +196,7 @@ module _ (w : Text) (ended : Bool) where
   length-moves Padded f = tt
   length-moves TooMany f = tt
 
-  skip-moves : (k : ℕ) → (k ≡ 0 → ⊥) → M (skipEvent k (length w) ended)
+  skip-moves : (k : ℕ) → (k ≡ 0 → ⊥) → M (skip_event k (length w) ended)
   skip-moves k some =
       by-test M (ltb (length w) k) (cond ended (Last BrokenBody) (cond (eqb (length w) 0) Wanting (Skipping (length w) (k - length w)))) (Skipped k)
       (λ t. by-test M ended (Last BrokenBody) (cond (eqb (length w) 0) Wanting (Skipping (length w) (k - length w)))
@@ -209,6 +209,6 @@ module _ (w : Text) (ended : Bool) where
   pub event-moves : (k : ℕ) → M (event k w ended)
   unfolding event
   event-moves k =
-      by-test M (eqb k 0) (lengthEvent (length w) ended (number w)) (skipEvent k (length w) ended)
+      by-test M (eqb k 0) (length_event (length w) ended (number w)) (skip_event k (length w) ended)
       (λ t. length-moves (number w) (number_fits w))
       (λ t. skip-moves k (eqb-false k 0 t))

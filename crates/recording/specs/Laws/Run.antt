@@ -6,18 +6,18 @@ use Rattle.recording.specs.declared.State.{State}
 use Rattle.recording.specs.declared.Why.{Why}
 use Rattle.recording.specs.declared.Why.TheVariants.{Wanting, Full, Over}
 use Rattle.recording.specs.Replay.{heading, replayed}
-use Rattle.recording.specs.Window.{owed, owedAs}
-use Rattle.recording.specs.Turn.{beginning, Turned, lineRoom, maxCount, countable, turned, Runs, over, full, reads, ends, joined}
+use Rattle.recording.specs.Window.{owed, owed_as}
+use Rattle.recording.specs.Turn.{beginning, Turned, line_room, max_count, countable, turned, Runs, over, full, reads, ends, joined}
 use Rattle.recording.specs.Laws.Turn.{Kept, turned-kept, turned-uses, turned-wanting}
 
 -- so many bytes, held and to come, can be counted
 pub record Counted (s : State) (bytes : ℕ) : Type 0 where
-  pub count : s.count + bytes ≤ maxCount
-  pub refused : s.refused + bytes ≤ maxCount
+  pub count : s.count + bytes ≤ max_count
+  pub refused : s.refused + bytes ≤ max_count
 
 module _ (s : State) (w : Text) (ended : Bool) (more room : ℕ) (h : Counted s (length w + more)) where
   counted_is : countable s (length w) ≡ true
-  counted_is = rw (le-leb (s.count + length w) maxCount (omega (arith, h.count)), le-leb (s.refused + length w) maxCount (omega (arith, h.refused)))
+  counted_is = rw (le-leb (s.count + length w) max_count (omega (arith, h.count)), le-leb (s.refused + length w) max_count (omega (arith, h.refused)))
 
   kept : Kept s w ended room (turned s w ended room)
   kept = turned-kept s w ended room counted_is
@@ -50,10 +50,10 @@ module _ (s : State) (w : Text) (ended : Bool) (room more : ℕ) (h : Counted s 
   -- what is written and what is owed after it, for a turn that stopped so
   goes-right :
       (a : Why) (y : Text) → (turned s w ended room).why ≡ a → (ended ≡ true → y ≡ [])
-      → owed s (w ++ y) ≡ (turned s w ended room).wrote ++ owedAs a (turned s w ended room).state (drop (turned s w ended room).used w ++ y)
+      → owed s (w ++ y) ≡ (turned s w ended room).wrote ++ owed_as a (turned s w ended room).state (drop (turned s w ended room).used w ++ y)
   goes-right a y q f =
       subst
-      (λ (b : Why). owed s (w ++ y) ≡ (turned s w ended room).wrote ++ owedAs b (turned s w ended room).state (drop (turned s w ended room).used w ++ y))
+      (λ (b : Why). owed s (w ++ y) ≡ (turned s w ended room).wrote ++ owed_as b (turned s w ended room).state (drop (turned s w ended room).used w ++ y))
       q
       ((kept s w ended more room h).right y f)
 
@@ -77,7 +77,7 @@ run-right {s = s} {w = w} (ends room q r e) f h =
     e ∙ ap (λ (z : Text). (turned s w false room).wrote ++ z) i ∙ sym (goes-right s w false room 0 h Wanting [] q (λ b. refl))
 
 -- for every way of cutting a recording into pieces, and whatever room each turn has
-pub run-replays : (cs : List Text) (o : Text) → length (joined cs) ≤ maxCount → Runs beginning [] false cs o → heading ++ o ≡ replayed (joined cs)
+pub run-replays : (cs : List Text) (o : Text) → length (joined cs) ≤ max_count → Runs beginning [] false cs o → heading ++ o ≡ replayed (joined cs)
 unfolding replayed
 run-replays cs o h r = ap (λ (z : Text). heading ++ z) (run-right r (λ b. not-ended b) (record { count = omega arith; refused = omega arith }))
 
@@ -89,7 +89,7 @@ joined-singly : (x : Text) → joined (singly x) ≡ x
 joined-singly [] = refl
 joined-singly (b ∷ x) = ap (λ (z : Text). b ∷ z) (joined-singly x)
 
-pub run-singly : (x o : Text) → length x ≤ maxCount → Runs beginning [] false (singly x) o → heading ++ o ≡ replayed x
+pub run-singly : (x o : Text) → length x ≤ max_count → Runs beginning [] false (singly x) o → heading ++ o ≡ replayed x
 run-singly x o h r = run-replays (singly x) o (rw (joined-singly x) h) r ∙ ap replayed (joined-singly x)
 
 -- ---- it comes to its end
@@ -98,7 +98,7 @@ pub record SomeRun (s : State) (w : Text) (ended : Bool) (cs : List Text) : Type
   pub wrote : Text
   pub run : Runs s w ended cs wrote
 
-module _ (room : ℕ) (r : lineRoom ≤ room) where
+module _ (room : ℕ) (r : line_room ≤ room) where
   -- over one window: full turns, each of which uses a byte, until bytes are wanted or it is over
   module _ (ended : Bool) (cs : List Text)
       (wants : (s : State) (w : Text) → Counted s (length w + length (joined cs)) → (turned s w ended room).why ≡ Wanting → SomeRun s w ended cs) where
@@ -138,5 +138,5 @@ module _ (room : ℕ) (r : lineRoom ≤ room) where
       (suc (length w)) s w (omega arith) h
 
   -- a run over any pieces, where each turn has room for a line
-  pub runs-end : (cs : List Text) → length (joined cs) ≤ maxCount → SomeRun beginning [] false cs
+  pub runs-end : (cs : List Text) → length (joined cs) ≤ max_count → SomeRun beginning [] false cs
   runs-end cs h = pieces-run cs beginning [] (record { count = omega arith; refused = omega arith })

@@ -1,7 +1,7 @@
 -- `report` meets its contract: what was read is told by what it says of the text. Assumes nothing.
 use borrow.Author.Tests.{eq-eqb, ne_eqb}
-use Rattle.ast_mapping.specs.Spans.{policyTold}
-use Rattle.report.specs.Report.{answerText}
+use Rattle.ast_mapping.specs.Spans.{policy_told}
+use Rattle.report.specs.Report.{answer_text}
 use Rattle.report.proofs.Prints.{report-is}
 use borrow.Author.Rules.{rules}
 use Rattle.report.proofs.report.Statement.{statement}
@@ -26,14 +26,14 @@ same_length : tie.Need-same-length
 same_length c = search rules
 
 returns : tie.Need-returns
-unfolding answerText
+unfolding answer_text
 returns c =
     let u = c.before.before in
     let v = u.before.before.before in
     let w = v.before.before.before.before.before in
     let y = w.before.before.before.before.before in
     let d = w.read-policy in
-    let a = policyTold d.result in
+    let a = policy_told d.result in
     let is = report-is y.args.text.now d.new.1.0 d.new.1.1.0 a d.ensures.0 d.ensures.1.0 d.ensures.1.1 in
     rw (← is, ne_eqb d.result.answer.refusal 0 v.if1.true) u.put-refusal.ensures
 
@@ -47,14 +47,14 @@ same-length-2 : tie.Need-same-length-2
 same-length-2 c = search rules
 
 returns-2 : tie.Need-returns-2
-unfolding answerText
+unfolding answer_text
 returns-2 c =
     let u = c.before.before in
     let v = u.before.before.before.before in
     let w = v.before.before.before.before.before in
     let y = w.before.before.before.before.before in
     let d = w.read-policy in
-    let a = policyTold d.result in
+    let a = policy_told d.result in
     let is = report-is y.args.text.now d.new.1.0 d.new.1.1.0 a d.ensures.0 d.ensures.1.0 d.ensures.1.1 in
     rw (← is, eq-eqb d.result.answer.refusal 0 v.if1.false) u.put-policy.ensures
 

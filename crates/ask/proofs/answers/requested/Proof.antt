@@ -3,7 +3,7 @@ use mathlib.Core.Path.{sym, subst}
 use lib.ListN.{length}
 use lib.Seq.{length-take-le}
 use Rattle.lines.specs.Fields.{AtMost, Within}
-use Rattle.ask.specs.Room.{mostBytes, mostWords}
+use Rattle.ask.specs.Room.{most_bytes, most_words}
 use borrow.Author.Rules.{rules}
 use Rattle.ask.proofs.answers.requested.Statement.{statement}
 use Rattle.ask.proofs.answers.requested.Tie as tie
@@ -96,9 +96,9 @@ returns-6 c =
     let long = length a.line.now in
     let u = d.before.before.before.before.before.before.unhex in (
       subst (AtMost (length u.new.1.0)) count.given.1 u.ensures.1.1,
-      (subst (Within long mostWords) words.given.1 number-field.ensures).0,
-      (subst (Within long mostWords) words2.given.1 number-field2.ensures).0,
-      (subst (Within long mostBytes) c.before.before.output.given.1 number-field3.ensures).0,
+      (subst (Within long most_words) words.given.1 number-field.ensures).0,
+      (subst (Within long most_words) words2.given.1 number-field2.ensures).0,
+      (subst (Within long most_bytes) c.before.before.output.given.1 number-field3.ensures).0,
     )
 
 pub requested-spec : {M : Type 1} → statement M

@@ -1,14 +1,14 @@
 -- `every::all_bytes_are` meets its contract: the bytes from `from` are all b where those from i are, for each byte passed. Assumes nothing.
 use mathlib.Core.Path.{◌≡◌, refl, sym, ◌∙◌}
 use Prim.Native.Nat.{◌-◌}
-use Rattle.ask.specs.Every.{everyIs}
+use Rattle.ask.specs.Every.{every_is}
 use Rattle.ask.proofs.Words.{every-end, every-other, every_more}
 use Rattle.ask.proofs.every.all_bytes_are.Statement.{statement}
 use Rattle.ask.proofs.every.all_bytes_are.Tie as tie
 use native.Mathlib.Omega.{arith}
 
 abbrev invariant-loop : tie.invariant-loop
-invariant-loop words from to w i₀ i = everyIs words i₀ to w ≡ everyIs words i to w
+invariant-loop words from to w i₀ i = every_is words i₀ to w ≡ every_is words i to w
 
 abbrev decreases-loop : tie.decreases-loop
 decreases-loop words from to w i₀ i = to - i

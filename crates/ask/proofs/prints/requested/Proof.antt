@@ -3,7 +3,7 @@ use mathlib.Core.Path.{sym, subst}
 use lib.ListN.{length}
 use lib.Seq.{length-take-le}
 use Rattle.lines.specs.Fields.{AtMost, Within}
-use Rattle.ask.specs.Room.{mostBytes}
+use Rattle.ask.specs.Room.{most_bytes}
 use borrow.Author.Rules.{rules}
 use Rattle.ask.proofs.prints.requested.Statement.{statement}
 use Rattle.ask.proofs.prints.requested.Tie as tie
@@ -107,7 +107,7 @@ returns-6 c =
     let w = c.before.before.before.before.before.before.before.before.before.before.words-after in (
       subst (AtMost (length u.new.1.0)) count.given.1 u.ensures.1.1,
       (subst (Within long (length w.new.1.1.0)) table.given.1 w.ensures).0,
-      (subst (Within long mostBytes) c.before.before.lent.given.1 number-after.ensures.1).0,
+      (subst (Within long most_bytes) c.before.before.lent.given.1 number-after.ensures.1).0,
     )
 
 pub requested-spec : {M : Type 1} → statement M

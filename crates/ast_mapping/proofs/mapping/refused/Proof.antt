@@ -2,7 +2,7 @@
 use mathlib.Core.Path.{ap, ◌∙◌}
 use Prim.Native.Nat.{ℕ}
 use borrow.Author.Tests.{ne_eqb, lt-ltb, le-ltb}
-use Rattle.ast_mapping.specs.Steps.{kindRefused}
+use Rattle.ast_mapping.specs.Steps.{kind_refused}
 use Rattle.ast_mapping.proofs.mapping.refused.Statement.{statement}
 use Rattle.ast_mapping.proofs.mapping.refused.Tie as tie
 
@@ -15,7 +15,7 @@ unexpected-type-requires c κs = tt
 returns : tie.Need-returns
 returns c =
     let s = c.before.before.before in
-    rw c.before.before.match.keys1 (c.unexpected-type.ensures ∙ ap (λ (k : ℕ). kindRefused s.args.name k s.args.node.0) c.before.expected-kind.ensures)
+    rw c.before.before.match.keys1 (c.unexpected-type.ensures ∙ ap (λ (k : ℕ). kind_refused s.args.name k s.args.node.0) c.before.expected-kind.ensures)
 
 returns-2 : tie.Need-returns-2
 returns-2 c =

@@ -5,8 +5,8 @@ use Rattle.cel_text.specs.Byte.{Text}
 use Rattle.cel_text.specs.Table.{word}
 use Rattle.cel_policy.specs.Names.{same, spelling}
 use Rattle.cel_policy.specs.Mapping.{bad, typed}
-use Rattle.ast_mapping.specs.View.{nodeAt, typedAt}
-use Rattle.ast_mapping.specs.Steps.{expectedKind}
+use Rattle.ast_mapping.specs.View.{node_at, typed_at}
+use Rattle.ast_mapping.specs.Steps.{expected_kind}
 use Rattle.ast_mapping.proofs.Counts.{le_as}
 use Rattle.ast_mapping.proofs.View.{RowRead, row_read, room, few}
 use Rattle.ast_mapping.proofs.Steps.{NameAt, wrong-kind, right-kind}
@@ -21,10 +21,10 @@ right : (c : tie.Else1)
     → let s = c.before.before.before.before.before.before in
     let w = s.args.table.now in
     let x = s.args.text.now in
-    NameAt w x s.args.node.0 s.args.name (typedAt w x s.args.node.0) (typed (expectedKind s.args.name) s.args.name (nodeAt w x s.args.node.0))
+    NameAt w x s.args.node.0 s.args.name (typed_at w x s.args.node.0) (typed (expected_kind s.args.name) s.args.name (node_at w x s.args.node.0))
 right c =
     let s = c.before.before.before.before.before.before in
-    right-kind s.args.table.now s.args.text.now (expectedKind s.args.name) s.args.name s.args.node.0 s.requires
+    right-kind s.args.table.now s.args.text.now (expected_kind s.args.name) s.args.name s.args.node.0 s.requires
     (sym (read c.before.before.before).kind ∙ c.if1.false ∙ c.before.before.expected-kind.ensures)
 
 spelled : (c : tie.After-is-name)
@@ -54,7 +54,7 @@ returns c =
     record {
       is =
           ap bad c.refused.ensures
-          ∙ wrong-kind w x (expectedKind s.args.name) s.args.name n s.requires
+          ∙ wrong-kind w x (expected_kind s.args.name) s.args.name n s.requires
           (λ e. c.before.if1.true ((read c.before.before.before.before).kind ∙ e ∙ sym c.before.before.before.expected-kind.ensures));
       inside = small_of c.refused.ensures (few w x n s.requires);
     }

@@ -2,7 +2,7 @@
 use mathlib.Core.Path.{refl}
 use native.Mathlib.Omega.{arith}
 use Rattle.cel_policy.specs.Mapping.{lookup, list_of}
-use Rattle.ast_mapping.specs.View.{nodeAt, children}
+use Rattle.ast_mapping.specs.View.{node_at, children}
 use Rattle.ast_mapping.specs.Steps.{Looked, Checked, HeadersFound}
 use Rattle.ast_mapping.specs.declared.row.Found.TheVariants.{At}
 use Rattle.ast_mapping.specs.declared.mapping.Check.TheVariants.{Right}
@@ -25,7 +25,7 @@ included : (c : tie.After-known-told3)
     → let s = c.before.before.before.before.before.before.before.before.before.before.before.before.before in
     let w = s.args.table.now in
     HeadersFound w (Good c.before.first.given.0.0)
-    (list_of 13 (lookup 13 (children (nodeAt w s.args.text.now c.before.before.before.before.before.before.before.before.found.given.0.0.0))))
+    (list_of 13 (lookup 13 (children (node_at w s.args.text.now c.before.before.before.before.before.before.before.before.found.given.0.0.0))))
 included c = rw c.before.first.given.1 at c.before.before.before.response-headers.ensures
 
 lookup-requires : tie.Need-lookup-requires

@@ -5,9 +5,9 @@ use native.Mathlib.Numerals.{add-one-le}
 use native.Mathlib.Nat.{le_refl, not-le_of_lt}
 use borrow.Author.Count.{falls, below_more}
 use Rattle.cel_text.specs.Tree.{Kind, array}
-use Rattle.cel_text.specs.Reading.{maxNodes}
-use Rattle.cel_text.specs.Table.{stringKind, kindNumber, word}
-use Rattle.cel_policy.specs.Mapping.{bad, unexpectedType}
+use Rattle.cel_text.specs.Reading.{max_nodes}
+use Rattle.cel_text.specs.Table.{string_kind, kind_number, word}
+use Rattle.cel_policy.specs.Mapping.{bad, unexpected_type}
 use Rattle.ast_mapping.proofs.Counts.{lt-as, end-as, turn-first, turn-past, turn-later, fits-node}
 use Rattle.ast_mapping.proofs.View.{RowRead, row_read}
 use Rattle.ast_mapping.proofs.Lists.{tabled-row, tabled-small, wrong-array, no-string-at, all-strings}
@@ -16,7 +16,7 @@ use Rattle.ast_mapping.proofs.mapping.validate_string_array.Statement.{statement
 use Rattle.ast_mapping.proofs.mapping.validate_string_array.Tie as tie
 
 abbrev invariant-loop : tie.invariant-loop
-invariant-loop table name end next₀ next = (next₀.0 ≤ next.0) × (next.0 ≤ end.0) × ((i : ℕ) → next₀.0 ≤ i → i < next.0 → word table i 0 ≡ stringKind)
+invariant-loop table name end next₀ next = (next₀.0 ≤ next.0) × (next.0 ≤ end.0) × ((i : ℕ) → next₀.0 ≤ i → i < next.0 → word table i 0 ≡ string_kind)
 
 abbrev decreases-loop : tie.decreases-loop
 decreases-loop table name end next₀ next = end.0 - next.0
@@ -24,14 +24,14 @@ decreases-loop table name end next₀ next = end.0 - next.0
 whole : (c : tie.After-read-row invariant-loop decreases-loop) → let s = c.before.before in RowRead s.args.table.now s.args.list.0 c.read-row.result
 whole c = let s = c.before.before in row_read c.read-row.ensures (tabled-row s.requires.0 s.args.list.0 s.requires.0.begun)
 
-list-kind : (c : tie.Else1 invariant-loop decreases-loop) → let s = c.before.before.before.before.before in word s.args.table.now s.args.list.0 0 ≡ kindNumber array
-list-kind c = sym (whole c.before.before.before).kind ∙ c.if1.false ∙ c.before.before.expected-kind.ensures ∙ ap kindNumber c.before.before.before.before.before.requires.1
+list-kind : (c : tie.Else1 invariant-loop decreases-loop) → let s = c.before.before.before.before.before in word s.args.table.now s.args.list.0 0 ≡ kind_number array
+list-kind c = sym (whole c.before.before.before).kind ∙ c.if1.false ∙ c.before.before.expected-kind.ensures ∙ ap kind_number c.before.before.before.before.before.requires.1
 
 more : (c : tie.Then2 invariant-loop decreases-loop)
     → let s = c.before.before.before.before.before.before.before.before.before.before.before in c.before.before.before.loop.next.0 < word s.args.table.now s.args.list.0 7
 more c = lt-as (whole c.before.before.before.before.before.before.before.before.before).past c.if2.true
 
-small : (c : tie.Then2 invariant-loop decreases-loop) → c.before.before.before.loop.next.0 < maxNodes
+small : (c : tie.Then2 invariant-loop decreases-loop) → c.before.before.before.loop.next.0 < max_nodes
 small c = tabled-small c.before.before.before.before.before.before.before.before.before.before.before.requires.0 c.before.before.before.loop.next.0 (more c)
 
 element : (c : tie.After-read-row2 invariant-loop decreases-loop)
@@ -62,8 +62,8 @@ returns c =
       is =
           λ x h.
           ap bad c.refused.ensures
-          ∙ ap (λ (k : Kind). unexpectedType s.args.name (kindNumber k) n) s.requires.1
-          ∙ wrong-array w x s.args.name n h (λ e. c.before.if1.true ((whole b4).kind ∙ e ∙ sym (c.before.before.before.expected-kind.ensures ∙ ap kindNumber s.requires.1)));
+          ∙ ap (λ (k : Kind). unexpected_type s.args.name (kind_number k) n) s.requires.1
+          ∙ wrong-array w x s.args.name n h (λ e. c.before.if1.true ((whole b4).kind ∙ e ∙ sym (c.before.before.before.expected-kind.ensures ∙ ap kind_number s.requires.1)));
       inside = small_of c.refused.ensures (tabled-small s.requires.0 n s.requires.0.begun);
     }
 
@@ -108,7 +108,7 @@ loop-again c =
       turn-later l.loop.invariant.0,
       add-one-le c.before.before.before.before.if2.true,
       λ i a b.
-          below_more (λ (k : ℕ). s.args.list.0 + 1 ≤ k → word s.args.table.now k 0 ≡ stringKind) l.loop.next.0 (λ k d f. l.loop.invariant.2 k f d)
+          below_more (λ (k : ℕ). s.args.list.0 + 1 ≤ k → word s.args.table.now k 0 ≡ string_kind) l.loop.next.0 (λ k d f. l.loop.invariant.2 k f d)
           (λ f. sym (element c.before.before.before).kind ∙ c.before.if3.false) i b a,
     )
 

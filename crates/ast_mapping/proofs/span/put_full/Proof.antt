@@ -2,14 +2,14 @@
 use mathlib.Core.Path.{◌∙◌}
 use native.Mathlib.Omega.{arith}
 use lib.ListN.{length, length-append}
-use Rattle.ast_mapping.specs.View.{stringsOf}
+use Rattle.ast_mapping.specs.View.{strings_of}
 use Rattle.ast_mapping.proofs.Spans.{put-lists, Room, room-first, room-second, room-third, fits-first}
 use Rattle.ast_mapping.proofs.span.put_full.Statement.{statement}
 use Rattle.ast_mapping.proofs.span.put_full.Tie as tie
 
 room : (c : tie.Start)
     → let w = c.args.table.now in
-    Room (length (stringsOf w c.args.headers.0)) (length (stringsOf w c.args.query.0)) (length (stringsOf w c.args.list.0)) (length c.args.spans.now)
+    Room (length (strings_of w c.args.headers.0)) (length (strings_of w c.args.query.0)) (length (strings_of w c.args.list.0)) (length c.args.spans.now)
 room c = let all = simp length-append at c.requires.1 in record { words = all.0; few = all.1 }
 
 put-list-requires : tie.Need-put-list-requires

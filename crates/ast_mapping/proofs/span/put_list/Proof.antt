@@ -6,10 +6,10 @@ use native.Mathlib.Nat.{le_refl}
 use lib.ListN.{length, length-set}
 use lib.Seq.{sets}
 use borrow.Author.Count.{falls}
-use Rattle.cel_text.specs.Reading.{maxNodes}
-use Rattle.cel_text.specs.Table.{rowWords, word}
-use Rattle.cel_policy.specs.Spans.{spanRows}
-use Rattle.ast_mapping.specs.View.{spansFrom}
+use Rattle.cel_text.specs.Reading.{max_nodes}
+use Rattle.cel_text.specs.Table.{row_words, word}
+use Rattle.cel_policy.specs.Spans.{span_rows}
+use Rattle.ast_mapping.specs.View.{spans_from}
 use Rattle.ast_mapping.proofs.Counts.{lt-as, turn-first, turn-later, fits-node, fits-string, fits-from, fits-from-bytes, fits-to, fits-to-bytes, span-from, span_to, span-near}
 use Rattle.ast_mapping.proofs.View.{RowRead, row_read}
 use Rattle.ast_mapping.proofs.Lists.{tabled-row, tabled-small}
@@ -24,8 +24,8 @@ invariant-loop table spans₀ from end next₀ at₀ spans next at =
     × (next.0 ≤ end.0)
     × (at ≡ from + (next.0 - next₀.0))
     × (length spans ≡ length spans₀)
-    × (sets spans₀ (2 * from) (spanRows (spansFrom table next₀.0 (end.0 - next₀.0)))
-    ≡ sets spans (2 * at) (spanRows (spansFrom table next.0 (end.0 - next.0))))
+    × (sets spans₀ (2 * from) (span_rows (spans_from table next₀.0 (end.0 - next₀.0)))
+    ≡ sets spans (2 * at) (span_rows (spans_from table next.0 (end.0 - next.0))))
 
 abbrev decreases-loop : tie.decreases-loop
 decreases-loop table spans₀ from end next₀ at₀ spans next at = end.0 - next.0
@@ -50,7 +50,7 @@ more : (c : tie.Then1 invariant-loop decreases-loop)
     → let s = c.before.before.before.before.before.before.before.before.before in c.before.before.before.loop.next.0 < word s.args.table.now s.args.list.0 7
 more c = lt-as (whole c.before.before.before.before.before.before).past c.if1.true
 
-small : (c : tie.Then1 invariant-loop decreases-loop) → c.before.before.before.loop.next.0 < maxNodes
+small : (c : tie.Then1 invariant-loop decreases-loop) → c.before.before.before.loop.next.0 < max_nodes
 small c = tabled-small c.before.before.before.before.before.before.before.before.before.requires.0 c.before.before.before.loop.next.0 (more c)
 
 string : (c : tie.After-read-row2 invariant-loop decreases-loop)
@@ -81,7 +81,7 @@ cast-spans : tie.Need-overflow-cast-spans invariant-loop decreases-loop
 cast-spans c =
     let b5 = c.before.before.before.before.before in
     let b10 = b5.before.before.before.before.before in
-    omega (arith, (string c.before).from, b10.shared-slice-known.given (rowWords * b5.loop.next.0 + 1))
+    omega (arith, (string c.before).from, b10.shared-slice-known.given (row_words * b5.loop.next.0 + 1))
 
 mul-spans : tie.Need-overflow-mul-spans invariant-loop decreases-loop
 mul-spans c = fits-from (near c.before.before)
@@ -96,7 +96,7 @@ cast-spans-2 : tie.Need-overflow-cast-spans-2 invariant-loop decreases-loop
 cast-spans-2 c =
     let b6 = c.before.before.before.before.before.before in
     let b11 = b6.before.before.before.before.before in
-    omega (arith, (string c.before.before).to, b11.shared-slice-known.given (rowWords * b6.loop.next.0 + 2))
+    omega (arith, (string c.before.before).to, b11.shared-slice-known.given (row_words * b6.loop.next.0 + 2))
 
 mul-spans-3 : tie.Need-overflow-mul-spans-3 invariant-loop decreases-loop
 mul-spans-3 c = fits-from (near c.before.before.before)
@@ -145,7 +145,7 @@ returns c =
     let l = c.before.before.before in
     let end = c.before.before.before.before.before.before.read-row.result.past.0 in
     let past = (whole c.before.before.before.before.before.before).past in
-    let done : l.loop.spans ≡ sets s.args.spans.now (2 * s.args.from) (spanRows (spansFrom w (n + 1) (end - (n + 1))))
+    let done : l.loop.spans ≡ sets s.args.spans.now (2 * s.args.from) (span_rows (spans_from w (n + 1) (end - (n + 1))))
     = put-none w l.loop.spans l.loop.next.0 end l.loop.at c.if1.false ∙ sym l.loop.invariant.4 in
     record {
       rows = rw (add-one, past) at done;

@@ -2,7 +2,7 @@
 use mathlib.Core.Path.{◌≡◌}
 use native.Mathlib.Omega.{arith}
 use lib.ListN.{length}
-use Rattle.ast_mapping.specs.View.{stringsOf}
+use Rattle.ast_mapping.specs.View.{strings_of}
 use Rattle.ast_mapping.proofs.span.put_response.Statement.{statement}
 use Rattle.ast_mapping.proofs.span.put_response.Tie as tie
 
@@ -19,7 +19,7 @@ returns : tie.Need-returns
 returns c =
     let s = c.before.before.before.before.before.before in
     let p = c.before.before.put-list in
-    let count : p.result ≡ length (stringsOf s.args.table.now s.args.list.0) = omega (arith, p.ensures.count) in
+    let count : p.result ≡ length (strings_of s.args.table.now s.args.list.0) = omega (arith, p.ensures.count) in
     record { rows = p.ensures.rows; counts = rw count }
 
 pub put-response-spec : {M : Type 1} → statement M

@@ -1,7 +1,7 @@
 -- `span::settle` meets its contract, case by case. Assumes nothing.
 use mathlib.Core.Path.{refl, ap, ◌∙◌}
 use Rattle.cel_text.specs.Answer.{Answer}
-use Rattle.cel_policy.specs.Policy.{Counted, noPolicy}
+use Rattle.cel_policy.specs.Policy.{Counted, no_policy}
 use Rattle.parser.specs.Found.{told}
 use Rattle.ast_mapping.proofs.span.settle.Statement.{statement}
 use Rattle.ast_mapping.proofs.span.settle.Tie as tie
@@ -64,7 +64,7 @@ returns-4 : tie.Need-returns-4
 returns-4 c =
     rw c.before.before.before.mapped3.given.1
     (record {
-      answer = c.without-policy.ensures ∙ ap (λ (b : Answer). record { answer = b; policy = noPolicy }) c.before.refused-in.ensures;
+      answer = c.without-policy.ensures ∙ ap (λ (b : Answer). record { answer = b; policy = no_policy }) c.before.refused-in.ensures;
       rows = refl;
     })
 

@@ -2,16 +2,16 @@
 use mathlib.Core.Path.{subst}
 use native.Mathlib.Nat.{zero-add, sub-zero}
 use Rattle.cel_policy.specs.Laws.Judging.{SpanInside}
-use Rattle.parser.specs.Set.{stringSet}
+use Rattle.parser.specs.Set.{string_set}
 use Prim.Native.Nat.{◌-◌}
-use Rattle.cel_policy.specs.Answers.{bytesFit}
+use Rattle.cel_policy.specs.Answers.{bytes_fit}
 use Rattle.create_cel_expr.proofs.Faults.{Searched, search-on, search-found, search-over}
 use Rattle.create_cel_expr.proofs.judge.first_odd.Statement.{statement}
 use Rattle.create_cel_expr.proofs.judge.first_odd.Tie as tie
 use borrow.Author.Rules.{rules}
 
 abbrev invariant-loop : tie.invariant-loop
-invariant-loop text spans count i₀ i = Searched (bytesFit stringSet spans text) count i
+invariant-loop text spans count i₀ i = Searched (bytes_fit string_set spans text) count i
 
 abbrev decreases-loop : tie.decreases-loop
 decreases-loop text spans count i₀ i = count - i
@@ -30,7 +30,7 @@ returns : tie.Need-returns invariant-loop decreases-loop
 returns c =
     let a = c.before.before.before.before.before.before.args in
     let t = c.before.before.loop-test in
-    search-found (bytesFit stringSet a.spans.now a.text.now) a.count 22 t.true c.before.plain.ensures c.if1.true c.before.before.before.loop.invariant
+    search-found (bytes_fit string_set a.spans.now a.text.now) a.count 22 t.true c.before.plain.ensures c.if1.true c.before.before.before.loop.invariant
 
 add-i : tie.Need-overflow-add-i invariant-loop decreases-loop
 add-i c = search rules
@@ -41,12 +41,12 @@ loop-less c = search rules
 loop-again : tie.Need-loop-preserved invariant-loop decreases-loop
 loop-again c =
     let a = c.before.before.before.before.before.before.args in
-    search-on (bytesFit stringSet a.spans.now a.text.now) a.count c.before.before.loop-test.true c.before.plain.ensures c.if1.false c.before.before.before.loop.invariant
+    search-on (bytes_fit string_set a.spans.now a.text.now) a.count c.before.before.loop-test.true c.before.plain.ensures c.if1.false c.before.before.before.loop.invariant
 
 returns-2 : tie.Need-returns-2 invariant-loop decreases-loop
 returns-2 c =
     let a = c.before.before.before.before.args in
-    search-over (bytesFit stringSet a.spans.now a.text.now) a.count 22 c.loop-test.false c.before.loop.invariant
+    search-over (bytes_fit string_set a.spans.now a.text.now) a.count 22 c.loop-test.false c.before.loop.invariant
 
 pub first-odd-spec : {M : Type 1} → statement M
 first-odd-spec =

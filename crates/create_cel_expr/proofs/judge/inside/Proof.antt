@@ -1,9 +1,9 @@
--- `judge::inside` meets its contract: each return is one way through `spanFits`. Assumes nothing.
+-- `judge::inside` meets its contract: each return is one way through `span_fits`. Assumes nothing.
 use Prim.Native.Nat.{suc, ◌*◌}
 use lib.ListN.{length}
 use borrow.Author.Tests.{lt-ltb, le-ltb, le-leb, lt-leb}
-use Rattle.cel_policy.specs.Spans.{spanAt}
-use Rattle.cel_policy.specs.Answers.{spanFits}
+use Rattle.cel_policy.specs.Spans.{span_at}
+use Rattle.cel_policy.specs.Answers.{span_fits}
 use borrow.Author.Rules.{rules}
 use Rattle.create_cel_expr.proofs.judge.inside.Statement.{statement}
 use Rattle.create_cel_expr.proofs.judge.inside.Tie as tie
@@ -16,7 +16,7 @@ add-if1 : tie.Need-overflow-add-if1
 add-if1 c = search rules
 
 returns : tie.Need-returns
-unfolding spanFits
+unfolding span_fits
 returns c =
     let a = c.before.before.before.args in
     rw (le-ltb (suc (2 * a.i)) (length a.spans.now) (omega arith))
@@ -28,20 +28,20 @@ to-requires : tie.Need-to-requires
 to-requires c κs = search rules
 
 returns-2 : tie.Need-returns-2
-unfolding spanFits
+unfolding span_fits
 returns-2 c =
     let a = c.before.before.before.before.before.before.args in
-    let span = spanAt a.spans.now a.i in
+    let span = span_at a.spans.now a.i in
     rw (
       lt-ltb (suc (2 * a.i)) (length a.spans.now) (omega arith),
       lt-leb span.from span.to (omega (arith, c.before.before.from.ensures, c.before.to.ensures, c.if2.true)),
     )
 
 returns-3 : tie.Need-returns-3
-unfolding spanFits
+unfolding span_fits
 returns-3 c =
     let a = c.before.before.before.before.before.before.args in
-    let span = spanAt a.spans.now a.i in
+    let span = span_at a.spans.now a.i in
     rw (
       lt-ltb (suc (2 * a.i)) (length a.spans.now) (omega arith),
       le-leb span.from span.to (omega (arith, c.before.before.from.ensures, c.before.to.ensures, c.if2.false)),

@@ -1,6 +1,6 @@
 -- `judge::over_set` meets its contract: what is judged over all bytes, then 22. Assumes nothing.
 use Rattle.cel_policy.specs.Policy.{numbers}
-use Rattle.parser.specs.Set.{stringSet}
+use Rattle.parser.specs.Set.{string_set}
 use Rattle.create_cel_expr.proofs.Judgings.{judged-faulty, judged-inside, judged-22}
 use borrow.Author.Rules.{rules}
 use Rattle.create_cel_expr.proofs.judge.over_set.Statement.{statement}
@@ -28,13 +28,13 @@ returns : tie.Need-returns
 returns c =
     let a = c.before.before.before.before.before.args in
     let j = c.before.before.over_any in
-    judged-faulty (numbers a.policy) a.spans.now a.text.now j.result j.ensures stringSet c.enum_told.given.1
+    judged-faulty (numbers a.policy) a.spans.now a.text.now j.result j.ensures string_set c.enum_told.given.1
 
 returns-2 : tie.Need-returns-2
 returns-2 c =
     let a = c.before.before.before.before.before.before.before.args in
     let j = c.before.before.before.before.over_any in
-    judged-22 (numbers a.policy) a.spans.now a.text.now j.result j.ensures stringSet c.before.before.enum-told2.given.1 c.before.count.ensures c.first-odd.ensures
+    judged-22 (numbers a.policy) a.spans.now a.text.now j.result j.ensures string_set c.before.before.enum-told2.given.1 c.before.count.ensures c.first-odd.ensures
 
 pub over-set-spec : {M : Type 1} → statement M
 over-set-spec =

@@ -1,6 +1,6 @@
 -- `measure::printed_length` meets its contract: what the form has around its lists, and the lists. Assumes nothing.
 use Rattle.cel_policy.specs.Policy.{numbers}
-use Rattle.create_cel_expr.specs.Given.{policyOf}
+use Rattle.create_cel_expr.specs.Given.{policy_of}
 use Rattle.create_cel_expr.proofs.Lists.{inside-part}
 use Rattle.create_cel_expr.proofs.Sizes.{length-skip, length-response-only, length-full}
 use borrow.Author.Rules.{rules}
@@ -20,7 +20,7 @@ cast-response c = search rules
 returns : tie.Need-returns
 returns c =
     let a = c.before.before.before.before.before.before.args in
-    length-skip (policyOf a.policy a.text.now a.spans.now) c.if1.true
+    length-skip (policy_of a.policy a.text.now a.spans.now) c.if1.true
 
 response-requires : tie.Need-response-requires
 response-requires c κs = search rules
@@ -38,7 +38,7 @@ returns-2 : tie.Need-returns-2
 returns-2 c =
     let a = c.before.before.before.before.before.before.before.before.before.args in
     let b = c.before.before.response in
-    length-response-only (policyOf a.policy a.text.now a.spans.now) c.if2.true (rw b.ensures at c.before.list.ensures.0)
+    length-response-only (policy_of a.policy a.text.now a.spans.now) c.if2.true (rw b.ensures at c.before.list.ensures.0)
 
 list-requires-2 : tie.Need-list-requires-2
 list-requires-2 c κs =
@@ -68,7 +68,7 @@ returns-3 c =
     let b = c.before.before.before.before.response in
     let t = c.before.before in
     let e = c.before.before.before.before.before.if1 in
-    length-full (policyOf a.policy a.text.now a.spans.now) e.false t.if2.false c.before.list2.ensures.0 c.list3.ensures.0 (rw b.ensures at r.0)
+    length-full (policy_of a.policy a.text.now a.spans.now) e.false t.if2.false c.before.list2.ensures.0 c.list3.ensures.0 (rw b.ensures at r.0)
 
 pub printed-length-spec : {M : Type 1} → statement M
 printed-length-spec =

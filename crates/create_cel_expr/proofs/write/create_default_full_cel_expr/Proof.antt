@@ -1,5 +1,5 @@
 -- `write::create_default_full_cel_expr` meets its contract: four pieces, one after the other. Assumes nothing.
-use Rattle.cel_policy.specs.Printed.{fullText}
+use Rattle.cel_policy.specs.Printed.{full_text}
 use Rattle.pieces.specs.Laws.{wrote_then, fits-first, fits-then}
 use Rattle.create_cel_expr.proofs.write.create_default_full_cel_expr.Statement.{statement}
 use Rattle.create_cel_expr.proofs.write.create_default_full_cel_expr.Tie as tie
@@ -9,20 +9,20 @@ slice-aggregate-put : tie.Need-slice-aggregate-put
 slice-aggregate-put c = search rules
 
 put-requires : tie.Need-put-requires
-unfolding fullText
+unfolding full_text
 put-requires c κs =
     let s = c.before.before.before.before.before in
     fits-first _ s.requires.1
 
 create-request-cel-expr-requires : tie.Need-create-request-cel-expr-requires
-unfolding fullText
+unfolding full_text
 create-request-cel-expr-requires c κs =
     let s = c.before.before.before.before.before.before.before.before.before in
     let o = c.before.before.before in
     (s.requires.0, fits-first _ (fits-then o.put.ensures s.requires.1))
 
 create-response-cel-expr-requires : tie.Need-create-response-cel-expr-requires
-unfolding fullText
+unfolding full_text
 create-response-cel-expr-requires c κs =
     let s = c.before.before.before.before.before.before.before.before.before.before.before.before.before in
     let t = c.before.before.before in
@@ -33,7 +33,7 @@ slice-aggregate-put-2 : tie.Need-slice-aggregate-put-2
 slice-aggregate-put-2 c = search rules
 
 put-requires-2 : tie.Need-put-requires-2
-unfolding fullText
+unfolding full_text
 put-requires-2 c κs =
     let r = c.before.before.before.before in
     let t = c.before.before.before.before.before.before.before.before in
@@ -45,7 +45,7 @@ same_length : tie.Need-same-length
 same_length c = search rules
 
 returns : tie.Need-returns
-unfolding fullText
+unfolding full_text
 returns c =
     let o = c.before.before.before.before.before.before.before.before.before.before.before.before.before.before.before in
     let t = c.before.before.before.before.before.before.before.before.before.before.before in

@@ -1,5 +1,5 @@
 -- `write::create_default_skip_cel_expr` meets its contract: one piece. Assumes nothing.
-use Rattle.cel_policy.specs.Printed.{skipText}
+use Rattle.cel_policy.specs.Printed.{skip_text}
 use borrow.Author.Rules.{rules}
 use Rattle.create_cel_expr.proofs.write.create_default_skip_cel_expr.Statement.{statement}
 use Rattle.create_cel_expr.proofs.write.create_default_skip_cel_expr.Tie as tie
@@ -8,7 +8,7 @@ slice-aggregate-put : tie.Need-slice-aggregate-put
 slice-aggregate-put c = search rules
 
 put-requires : tie.Need-put-requires
-unfolding skipText
+unfolding skip_text
 put-requires c κs =
     c.before.before.before.requires
 
@@ -16,7 +16,7 @@ same_length : tie.Need-same-length
 same_length c = search rules
 
 returns : tie.Need-returns
-unfolding skipText
+unfolding skip_text
 returns c =
     c.before.before.put.ensures
 

@@ -1,6 +1,6 @@
 -- `write::create_request_cel_expr` meets its contract: five pieces, one after the other. Assumes nothing.
 use Rattle.cel_policy.specs.Policy.{numbers}
-use Rattle.cel_policy.specs.Printed.{requestText}
+use Rattle.cel_policy.specs.Printed.{request_text}
 use Rattle.pieces.specs.Laws.{wrote_then, fits-first, fits-then}
 use Rattle.create_cel_expr.proofs.Lists.{inside-part}
 use borrow.Author.Rules.{rules}
@@ -18,13 +18,13 @@ slice-aggregate-put : tie.Need-slice-aggregate-put
 slice-aggregate-put c = search rules
 
 put-requires : tie.Need-put-requires
-unfolding requestText
+unfolding request_text
 put-requires c κs =
     let s = c.before.before.before.before.before.before.before in
     fits-first _ s.requires.1
 
 list-requires : tie.Need-list-requires
-unfolding requestText
+unfolding request_text
 list-requires c κs =
     let o = c.before.before.before in
     let s = c.before.before.before.before.before.before.before.before.before.before.before in
@@ -34,7 +34,7 @@ slice-aggregate-put-2 : tie.Need-slice-aggregate-put-2
 slice-aggregate-put-2 c = search rules
 
 put-requires-2 : tie.Need-put-requires-2
-unfolding requestText
+unfolding request_text
 put-requires-2 c κs =
     let l = c.before.before.before.before in
     let o = c.before.before.before.before.before.before.before.before in
@@ -42,7 +42,7 @@ put-requires-2 c κs =
     fits-first _ (fits-then l.list.ensures (fits-then o.put.ensures s.requires.1))
 
 list-requires-2 : tie.Need-list-requires-2
-unfolding requestText
+unfolding request_text
 list-requires-2 c κs =
     let p = c.before.before.before in
     let l = c.before.before.before.before.before.before.before.before in
@@ -56,7 +56,7 @@ slice-aggregate-put-3 : tie.Need-slice-aggregate-put-3
 slice-aggregate-put-3 c = search rules
 
 put-requires-3 : tie.Need-put-requires-3
-unfolding requestText
+unfolding request_text
 put-requires-3 c κs =
     let m = c.before.before.before.before in
     let p = c.before.before.before.before.before.before.before.before in
@@ -69,7 +69,7 @@ same_length : tie.Need-same-length
 same_length c = search rules
 
 returns : tie.Need-returns
-unfolding requestText
+unfolding request_text
 returns c =
     let o = c.before.before.before.before.before.before.before.before.before.before.before.before.before.before.before.before.before.before.before.before in
     let h = c.before.before.before.before.before.before.before.before.before.before.before.before.before.before.before.before in

@@ -3,7 +3,7 @@ use mathlib.Core.Path.{◌≡◌, refl, sym, ap, ◌∙◌}
 use Prim.Native.Nat.{ℕ, ◌≤◌, ◌+◌, ◌*◌, ◌-◌}
 use lib.ListN.{length, drop}
 use borrow.Author.Rules.{rules}
-use Rattle.lines.specs.Fields.{readFrom}
+use Rattle.lines.specs.Fields.{read_from}
 use Rattle.lines.specs.Laws.{read_some}
 use Rattle.lines.proofs.Fields.{read_none, read-end, read_low, read-high, read-over, read_more}
 use Rattle.lines.proofs.field.decimal.Statement.{statement}
@@ -11,7 +11,7 @@ use Rattle.lines.proofs.field.decimal.Tie as tie
 use native.Mathlib.Omega.{arith}
 
 abbrev invariant-loop : tie.invariant-loop
-invariant-loop field most top n₀ i₀ n i = (readFrom top n₀ field ≡ readFrom top n (drop i field)) × (n ≤ top)
+invariant-loop field most top n₀ i₀ n i = (read_from top n₀ field ≡ read_from top n (drop i field)) × (n ≤ top)
 
 abbrev decreases-loop : tie.decreases-loop
 decreases-loop field most top n₀ i₀ n i = length field - i

@@ -6,13 +6,13 @@ use native.Mathlib.Numerals.{add-one-le}
 use borrow.Author.Count.{falls}
 use lib.ListN.{length}
 use native.Mathlib.Omega.{arith}
-use Rattle.lines.specs.Fields.{partFrom}
+use Rattle.lines.specs.Fields.{part_from}
 use Rattle.lines.proofs.Fields.{part-last, part-next, part-here}
 use Rattle.lines.proofs.field.part_start.Statement.{statement}
 use Rattle.lines.proofs.field.part_start.Tie as tie
 
 abbrev invariant-loop : tie.invariant-loop
-invariant-loop line number mark at₀ i₀ at i = (at ≤ length line) × (i ≤ number) × (partFrom mark (number - i) line at ≡ partFrom mark number line 0)
+invariant-loop line number mark at₀ i₀ at i = (at ≤ length line) × (i ≤ number) × (part_from mark (number - i) line at ≡ part_from mark number line 0)
 
 abbrev decreases-loop : tie.decreases-loop
 decreases-loop line number mark at₀ i₀ at i = number - i

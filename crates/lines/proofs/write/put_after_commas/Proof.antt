@@ -5,7 +5,7 @@ use lib.ListN.{length, take}
 use lib.Seq.{take_all}
 use Rattle.pieces.specs.Pieces.{Wrote}
 use Rattle.pieces.specs.Laws.{wrote_none, wrote_then, wrote-length}
-use Rattle.lines.specs.Texts.{afterCommas}
+use Rattle.lines.specs.Texts.{after_commas}
 use Rattle.lines.specs.Laws.{commas-next}
 use Rattle.lines.proofs.write.put_after_commas.Statement.{statement}
 use Rattle.lines.proofs.write.put_after_commas.Tie as tie
@@ -13,7 +13,7 @@ use borrow.Author.Rules.{rules}
 use native.Mathlib.Omega.{arith}
 
 abbrev invariant-loop : tie.invariant-loop
-invariant-loop out₀ at words end₀ i₀ out end i = (i ≤ length words) × Wrote out₀ out at end (afterCommas (take i words))
+invariant-loop out₀ at words end₀ i₀ out end i = (i ≤ length words) × Wrote out₀ out at end (after_commas (take i words))
 
 abbrev decreases-loop : tie.decreases-loop
 decreases-loop out₀ at words end₀ i₀ out end i = length words - i
@@ -56,7 +56,7 @@ returns : tie.Need-returns invariant-loop decreases-loop
 returns c =
     let a = c.before.before.before.before.args in
     let l = c.before.loop in
-    subst (Wrote a.out.now l.out a.at l.end) (ap afterCommas (take_all l.i a.words.now c.loop-test.false)) l.invariant.1
+    subst (Wrote a.out.now l.out a.at l.end) (ap after_commas (take_all l.i a.words.now c.loop-test.false)) l.invariant.1
 
 pub put-after-commas-spec : {M : Type 1} → statement M
 put-after-commas-spec =

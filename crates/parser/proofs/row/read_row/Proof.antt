@@ -1,7 +1,7 @@
 -- `row::read_row` meets its contract: a whole row is there exactly where its number is below the number of whole rows. Assumes nothing.
 use Rattle.std.proofs.Common.{suc, ◌+◌, ◌*◌, ◌<◌, ◌≤◌, length, ◌∙◌, add-zero, arith, rules}
 use borrow.Author.Tests.{lt-leb}
-use Rattle.cel_text.specs.Table.{rowWords}
+use Rattle.cel_text.specs.Table.{row_words}
 use Rattle.cel_text.specs.Laws.Table.{row_inside}
 use Rattle.parser.proofs.row.read_row.Statement.{statement}
 use Rattle.parser.proofs.row.read_row.Tie as tie
@@ -13,8 +13,8 @@ returns : tie.Need-returns
 returns c =
     let n = c.before.before.before.before.args.node.0 in
     let w = c.before.before.before.before.args.table.now in
-    let less : length w < rowWords * suc n = omega arith in
-    c.no_row.ensures ∙ rw (lt-leb (rowWords * suc n) (length w) less)
+    let less : length w < row_words * suc n = omega arith in
+    c.no_row.ensures ∙ rw (lt-leb (row_words * suc n) (length w) less)
 
 mul_at : tie.Need-overflow-mul-at
 mul_at c = search rules
@@ -35,7 +35,7 @@ shared-slice-read-t11 : tie.Need-shared-slice-read-t11
 shared-slice-read-t11 c = search rules
 
 cast-t12 : tie.Need-overflow-cast-t12
-cast-t12 c = omega (arith, c.shared-slice-known3.given (rowWords * c.before.before.before.before.before.before.args.node.0 + 1))
+cast-t12 c = omega (arith, c.shared-slice-known3.given (row_words * c.before.before.before.before.before.before.args.node.0 + 1))
 
 add-t14 : tie.Need-overflow-add-t14
 add-t14 c = search rules
@@ -47,7 +47,7 @@ shared-slice-read-t17 : tie.Need-shared-slice-read-t17
 shared-slice-read-t17 c = search rules
 
 cast-t18 : tie.Need-overflow-cast-t18
-cast-t18 c = omega (arith, c.shared-slice-known4.given (rowWords * c.before.before.before.before.before.before.before.args.node.0 + 2))
+cast-t18 c = omega (arith, c.shared-slice-known4.given (row_words * c.before.before.before.before.before.before.before.args.node.0 + 2))
 
 add-t20 : tie.Need-overflow-add-t20
 add-t20 c = search rules
@@ -59,7 +59,7 @@ shared-slice-read-t23 : tie.Need-shared-slice-read-t23
 shared-slice-read-t23 c = search rules
 
 cast-t24 : tie.Need-overflow-cast-t24
-cast-t24 c = omega (arith, c.shared-slice-known5.given (rowWords * c.before.before.before.before.before.before.before.before.args.node.0 + 3))
+cast-t24 c = omega (arith, c.shared-slice-known5.given (row_words * c.before.before.before.before.before.before.before.before.args.node.0 + 3))
 
 add-t26 : tie.Need-overflow-add-t26
 add-t26 c = search rules
@@ -71,7 +71,7 @@ shared-slice-read-t29 : tie.Need-shared-slice-read-t29
 shared-slice-read-t29 c = search rules
 
 cast-t30 : tie.Need-overflow-cast-t30
-cast-t30 c = omega (arith, c.shared-slice-known6.given (rowWords * c.before.before.before.before.before.before.before.before.before.args.node.0 + 4))
+cast-t30 c = omega (arith, c.shared-slice-known6.given (row_words * c.before.before.before.before.before.before.before.before.before.args.node.0 + 4))
 
 add-t32 : tie.Need-overflow-add-t32
 add-t32 c = search rules
@@ -101,13 +101,13 @@ shared-slice-read-t44 : tie.Need-shared-slice-read-t44
 shared-slice-read-t44 c = search rules
 
 cast-t45 : tie.Need-overflow-cast-t45
-cast-t45 c = omega (arith, c.shared-slice-known9.given (rowWords * c.before.before.before.before.before.before.before.before.before.before.before.before.args.node.0 + 7))
+cast-t45 c = omega (arith, c.shared-slice-known9.given (row_words * c.before.before.before.before.before.before.before.before.before.before.before.before.args.node.0 + 7))
 
 returns-2 : tie.Need-returns-2
 returns-2 c =
     let n = c.before.before.before.before.before.before.before.before.before.before.before.before.args.node.0 in
     let w = c.before.before.before.before.before.before.before.before.before.before.before.before.args.table.now in
-    let whole : rowWords * suc n ≤ length w = omega arith in
+    let whole : row_words * suc n ≤ length w = omega arith in
     rw (row_inside w n whole, add-zero)
 
 pub read-row-spec : {M : Type 1} → statement M

@@ -239,7 +239,7 @@ cel-value-list-requires t c κs =
         inside = omega (arith, i, e.next);
         counted = c.before.before.before.open_row.auto.0 ∙ y.1.0.counted;
         few = omega (arith, e.room);
-        fewLeft = omega (arith, y.1.0.fewLeft);
+        few_left = omega (arith, y.1.0.few_left);
       },
     )
 
@@ -268,7 +268,7 @@ key-value-cel-value-requires t c κs =
     let l = key-value-keyed t c.before.before in
     let y = c.before.before.before.before.before.before.before.requires in (
       omega (arith, y.0),
-      (record { short = y.1.short; inside = l.within; counted = y.1.counted; few = y.1.few; fewLeft = y.1.fewLeft }, omega (arith, l, y.1)),
+      (record { short = y.1.short; inside = l.within; counted = y.1.counted; few = y.1.few; few_left = y.1.few_left }, omega (arith, l, y.1)),
     )
 
 key-value-enum-known-refusal : (t : ℕ) → key-value-lts.Need-enum-known-refusal (key-value-claims t) (key-value-at t) key-value.Post
@@ -335,7 +335,7 @@ list-key-value-requires : (t : ℕ) → list-lts.Need-key-value-requires (list-c
 list-key-value-requires t c κs =
     let l = c.before.loop.invariant in
     let y = c.before.before.before.before.before.before.before.before.before.before.requires in
-    (omega (arith, y.0), record { short = y.1.short; inside = l.within; counted = sofar-length l ∙ y.1.counted; few = l.room; fewLeft = y.1.fewLeft })
+    (omega (arith, y.0), record { short = y.1.short; inside = l.within; counted = sofar-length l ∙ y.1.counted; few = l.room; few_left = y.1.few_left })
 
 list-enum-known-step : (t : ℕ) → list-lts.Need-enum-known-step (list-claims t) (list_at t) list.Post list-Inv-loop list-μ-loop
 list-enum-known-step t c = search rules
@@ -387,7 +387,7 @@ list-add-t36 t c =
     let s = c.before.before.before.before.before.before.before.before in
     let r = list_read t s in
     let y = s.before.before.before.before.before.before.before.before.before.before.before.before.before.before.before.before.before.before.requires.1 in
-    omega (arith, r.shallow, y.fewLeft)
+    omega (arith, r.shallow, y.few_left)
 
 list-same-length-3 : (t : ℕ) → list-lts.Need-same-length-3 (list-claims t) (list_at t) list.Post list-Inv-loop list-μ-loop
 list-same-length-3 t c =

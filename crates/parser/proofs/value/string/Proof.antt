@@ -1,7 +1,7 @@
 -- `value::string` meets its contract: content, blanks and a quote are what the machine takes, and the row is put in two parts. Assumes nothing.
 use Rattle.std.proofs.Common.{◌≤◌, length, sym, refl, ◌∙◌, add-one, arith, rules}
 use Rattle.cel_text.specs.Byte.{blank}
-use Rattle.parser.specs.Set.{stringSet}
+use Rattle.parser.specs.Set.{string_set}
 use Rattle.parser.proofs.Runs.{end-within}
 use Rattle.parser.proofs.Values.{string-refused, string-whole}
 use Rattle.parser.proofs.value.string.Statement.{statement}
@@ -31,7 +31,7 @@ open-row-requires : tie.Need-open-row-requires
 open-row-requires c κs =
     let a = c.before.before.before.before.before.before.before.before.args in
     let r = c.before.before.before.before.before.run-of in
-    let h : r.result.0 ≤ length a.text.now = rw r.ensures (end-within stringSet a.text.now a.at.0 c.before.before.before.before.before.before.before.before.requires.0.0) in
+    let h : r.result.0 ≤ length a.text.now = rw r.ensures (end-within string_set a.text.now a.at.0 c.before.before.before.before.before.before.before.before.requires.0.0) in
     omega arith
 
 close-row-requires : tie.Need-close-row-requires
@@ -43,7 +43,7 @@ add-t14-2 c =
     let a = s.before.before.before.before.args in
     let r = s.before.run-of in
     let q = s.run-of2 in
-    let h : r.result.0 ≤ length a.text.now = rw r.ensures (end-within stringSet a.text.now a.at.0 s.before.before.before.before.requires.0.0) in
+    let h : r.result.0 ≤ length a.text.now = rw r.ensures (end-within string_set a.text.now a.at.0 s.before.before.before.before.requires.0.0) in
     let h' : q.result.0 ≤ length a.text.now = rw q.ensures (end-within blank a.text.now r.result.0 h) in
     omega (arith, s.before.before.before.before.requires.0.1)
 

@@ -1,7 +1,7 @@
 -- `line::put_counts` meets its contract: four pieces. Assumes nothing.
 use mathlib.Core.List.{append_assoc}
 use Rattle.pieces.specs.Laws.{wrote_then, wrote_as}
-use Rattle.recording.specs.Replay.{lastLine}
+use Rattle.recording.specs.Replay.{last_line}
 use borrow.Author.Rules.{rules}
 use Rattle.recording.proofs.line.put_counts.Statement.{statement}
 use Rattle.recording.proofs.line.put_counts.Tie as tie
@@ -28,7 +28,7 @@ same_length : tie.Need-same-length
 same_length c = search rules
 
 returns : tie.Need-returns
-unfolding lastLine
+unfolding last_line
 returns c =
     wrote_as (simp append_assoc) (wrote_then (wrote_then (wrote_then c.before.before.before.before.before.before.before.before.before.before.before.before.before.before.before.before.put-number.ensures c.before.before.before.before.before.before.before.before.before.before.before.put.ensures) c.before.before.before.before.before.before.before.put-number2.ensures) c.before.before.put2.ensures)
 

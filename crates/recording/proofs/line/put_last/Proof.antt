@@ -1,5 +1,5 @@
 -- `line::put_last` meets its contract: ending by ending. Assumes nothing.
-use Rattle.recording.specs.Replay.{lastLine}
+use Rattle.recording.specs.Replay.{last_line}
 use borrow.Author.Rules.{rules}
 use Rattle.recording.proofs.line.put_last.Statement.{statement}
 use Rattle.recording.proofs.line.put_last.Tie as tie
@@ -38,7 +38,7 @@ same-length-2 : tie.Need-same-length-2
 same-length-2 c = search rules
 
 returns-2 : tie.Need-returns-2
-unfolding lastLine
+unfolding last_line
 returns-2 c =
     rw c.before.before.before.before.before.enum-told2.given.1 c.before.before.put.ensures
 
@@ -46,7 +46,7 @@ same-length-3 : tie.Need-same-length-3
 same-length-3 c = search rules
 
 returns-3 : tie.Need-returns-3
-unfolding lastLine
+unfolding last_line
 returns-3 c =
     rw c.before.before.before.before.before.enum-told3.given.1 c.before.before.put2.ensures
 

@@ -1,14 +1,14 @@
 -- `node::arrays_before` meets its contract: each node passed is counted where it is an array. Assumes nothing.
 use mathlib.Core.Path.{◌≡◌, ap, ◌∙◌}
 use Prim.Native.Nat.{ℕ, ◌+◌, ◌-◌, ◌≤◌}
-use Rattle.report.specs.Node.{arraysBefore}
+use Rattle.report.specs.Node.{arrays_before}
 use Rattle.report.proofs.Walks.{arrays-more}
 use Rattle.report.proofs.node.arrays_before.Statement.{statement}
 use Rattle.report.proofs.node.arrays_before.Tie as tie
 use native.Mathlib.Omega.{arith}
 
 abbrev invariant-loop : tie.invariant-loop
-invariant-loop table end count₀ i₀ count i = (count ≡ arraysBefore table i) × (count ≤ i) × (i ≤ end)
+invariant-loop table end count₀ i₀ count i = (count ≡ arrays_before table i) × (count ≤ i) × (i ≤ end)
 
 abbrev decreases-loop : tie.decreases-loop
 decreases-loop table end count₀ i₀ count i = end - i
@@ -38,7 +38,7 @@ returns : tie.Need-returns invariant-loop decreases-loop
 returns c =
     let l = c.before.loop in
     let e : l.i ≡ c.before.before.before.args.node.0 = omega arith in
-    l.invariant.0 ∙ ap (arraysBefore c.before.before.before.args.table.now) e
+    l.invariant.0 ∙ ap (arrays_before c.before.before.before.args.table.now) e
 
 pub arrays-before-spec : {M : Type 1} → statement M
 arrays-before-spec =

@@ -3,14 +3,14 @@ use mathlib.Core.Path.{◌≡◌, ap, ◌∙◌}
 use mathlib.Core.Logic.{⊎_elim}
 use Prim.Native.Nat.{◌+◌, ◌-◌, ◌≤◌}
 use lib.ListN.{length, drop}
-use Rattle.report.specs.Node.{bracketAt}
+use Rattle.report.specs.Node.{bracket_at}
 use Rattle.report.proofs.Walks.{bracket-here, bracket-passed, other-passed, bracket-none}
 use Rattle.report.proofs.node.bracket.Statement.{statement}
 use Rattle.report.proofs.node.bracket.Tie as tie
 use native.Mathlib.Omega.{arith}
 
 abbrev invariant-loop : tie.invariant-loop
-invariant-loop text before left₀ i₀ left i = (i ≤ length text) × (bracketAt text before ≡ i + bracketAt (drop i text) left)
+invariant-loop text before left₀ i₀ left i = (i ≤ length text) × (bracket_at text before ≡ i + bracket_at (drop i text) left)
 
 abbrev decreases-loop : tie.decreases-loop
 decreases-loop text before left₀ i₀ left i = length text - i
@@ -25,7 +25,7 @@ returns : tie.Need-returns invariant-loop decreases-loop
 returns c =
     let l = c.before.before.before.before.loop in
     let x = c.before.before.before.before.before.args.text.now in
-    let here : bracketAt (drop l.i x) l.left ≡ 0 = ap (bracketAt (drop l.i x)) c.if2.true ∙ bracket-here x l.i c.before.before.before.loop-test.true c.before.if1.true in
+    let here : bracket_at (drop l.i x) l.left ≡ 0 = ap (bracket_at (drop l.i x)) c.if2.true ∙ bracket-here x l.i c.before.before.before.loop-test.true c.before.if1.true in
     (omega (arith, l.invariant.1, here), omega arith)
 
 sub-left : tie.Need-overflow-sub-left invariant-loop decreases-loop
@@ -45,11 +45,11 @@ loop-again c =
     ⊎_elim
     (λ w.
     let passed = bracket-passed x l.i l.left h w.0.taken w.1.left in
-    let same = ap (bracketAt (drop (l.i + 1) x)) w.2 in
+    let same = ap (bracket_at (drop (l.i + 1) x)) w.2 in
     (omega arith, omega (arith, l.invariant.1, passed, same)))
     (λ w.
     let passed = other-passed x l.i l.left h w.0.left in
-    let same = ap (bracketAt (drop (l.i + 1) x)) w.1 in
+    let same = ap (bracket_at (drop (l.i + 1) x)) w.1 in
     (omega arith, omega (arith, l.invariant.1, passed, same)))
     c.if1.branch
 

@@ -4,7 +4,7 @@ use lib.ListN.{length}
 use mathlib.Core.Path.{ap, ◌∙◌}
 use Prim.Native.Nat.{ℕ, ◌-◌, min}
 use Rattle.cel_text.specs.Table.{Row}
-use Rattle.report.specs.Node.{kind_at, fromAt}
+use Rattle.report.specs.Node.{kind_at, from_at}
 use Rattle.report.proofs.Walks.{start-array, start-string, start-other}
 use borrow.Author.Rules.{rules}
 use Rattle.report.proofs.node.start.Statement.{statement}
@@ -41,7 +41,7 @@ returns c =
     (is c.before.before.match.keys1 a.ensures b.ensures.0, b.ensures.1)
 
 returns-2 : tie.Need-returns-2
-unfolding kind_at fromAt
+unfolding kind_at from_at
 returns-2 c =
     let s = c.before.before.before.before.before.before.before in
     let d = c.before.before.before.before.read-row in
@@ -55,7 +55,7 @@ returns-2 c =
     (is c.before.before.match.keys2 from e, omega (arith, e, min-le_right (d.result.from.0 - 1) (length x)))
 
 returns-3 : tie.Need-returns-3
-unfolding kind_at fromAt
+unfolding kind_at from_at
 returns-3 c =
     let s = c.before.before.before.before.before.before in
     let d = c.before.before.before.read-row in

@@ -1,10 +1,10 @@
 -- `policy::put_canonical` meets its contract: what printing gives is said, or that it gives nothing. Assumes nothing.
 use mathlib.Core.Path.{ap}
 use lib.ListN.{replicate}
-use Rattle.cel_text.specs.Byte.{stringByte}
-use Rattle.cel_text.specs.Answer.{maxText}
+use Rattle.cel_text.specs.Byte.{string_byte}
+use Rattle.cel_text.specs.Answer.{max_text}
 use Rattle.cel_policy.specs.Policy.{numbers}
-use Rattle.cel_policy.specs.Answers.{PrintAnswer, findPrint, printAnswer, printOutput}
+use Rattle.cel_policy.specs.Answers.{PrintAnswer, find_print, print_answer, print_output}
 use Rattle.cel_policy.specs.Laws.Refusals.{print-gives}
 use Rattle.report.proofs.Prints.{text-refused, text-printed}
 use borrow.Author.Rules.{rules}
@@ -30,11 +30,11 @@ same_length : tie.Need-same-length
 same_length c = search rules
 
 returns : tie.Need-returns
-unfolding printAnswer
+unfolding print_answer
 returns c =
     let s = c.before.before.before.before.before.before.before.before.before.before.before.before.before.before in
     let d = c.before.before.before.before.before.before.before.before.before.print-policy in
-    let p = findPrint stringByte (numbers s.args.policy) s.args.spans.now s.args.text.now maxText in
+    let p = find_print string_byte (numbers s.args.policy) s.args.spans.now s.args.text.now max_text in
     rw (← text-refused p d.result.refusal (ap (λ (a : PrintAnswer). a.refusal) d.ensures.0) c.before.before.before.before.before.before.if1.true) c.before.before.say.ensures
 
 slice-aggregate-put-printed : tie.Need-slice-aggregate-put-printed
@@ -50,7 +50,7 @@ same-length-2 : tie.Need-same-length-2
 same-length-2 c = search rules
 
 returns-2 : tie.Need-returns-2
-unfolding printAnswer printOutput
+unfolding print_answer print_output
 returns-2 c =
     let u = c.before.before in
     let v = u.before.before.before.before in
@@ -58,11 +58,11 @@ returns-2 c =
     let y = w.before.before.before.before in
     let s = y.before in
     let d = w.print-policy in
-    let p = findPrint stringByte (numbers s.args.policy) s.args.spans.now s.args.text.now maxText in
-    let g = print-gives stringByte (numbers s.args.policy) s.args.spans.now s.args.text.now maxText in
+    let p = find_print string_byte (numbers s.args.policy) s.args.spans.now s.args.text.now max_text in
+    let g = print-gives string_byte (numbers s.args.policy) s.args.spans.now s.args.text.now max_text in
     let r = ap (λ (a : PrintAnswer). a.refusal) d.ensures.0 in
     let l = ap (λ (a : PrintAnswer). a.length) d.ensures.0 in
-    rw (← text-printed p (replicate maxText 0) d.new.1.1.1.0 d.result.refusal d.result.length g r l d.ensures.1 v.if1.false) u.put-printed.ensures
+    rw (← text-printed p (replicate max_text 0) d.new.1.1.1.0 d.result.refusal d.result.length g r l d.ensures.1 v.if1.false) u.put-printed.ensures
 
 pub put-canonical-spec : {M : Type 1} → statement M
 put-canonical-spec =

@@ -1,5 +1,5 @@
 -- `policy::put_form` meets its contract: by its definition. Assumes nothing.
-use Rattle.report.specs.Policy.{formText}
+use Rattle.report.specs.Policy.{form_text}
 use borrow.Author.Rules.{rules}
 use Rattle.report.proofs.policy.put_form.Statement.{statement}
 use Rattle.report.proofs.policy.put_form.Tie as tie
@@ -11,7 +11,7 @@ same_length : tie.Need-same-length
 same_length c = search rules
 
 returns : tie.Need-returns
-unfolding formText
+unfolding form_text
 returns c =
     c.before.before.put-message.ensures
 

@@ -1,6 +1,6 @@
 -- `policy::put_list` meets its contract: its pieces are those of the definition. Assumes nothing.
 use Rattle.pieces.specs.Laws.{wrote_then}
-use Rattle.report.specs.Policy.{listLines}
+use Rattle.report.specs.Policy.{list_lines}
 use borrow.Author.Rules.{rules}
 use Rattle.report.proofs.policy.put_list.Statement.{statement}
 use Rattle.report.proofs.policy.put_list.Tie as tie
@@ -15,7 +15,7 @@ same_length : tie.Need-same-length
 same_length c = search rules
 
 returns : tie.Need-returns
-unfolding listLines
+unfolding list_lines
 returns c =
     wrote_then c.before.before.before.before.before.before.put-title.ensures c.before.before.put-strings.ensures
 

@@ -2,13 +2,13 @@
 use Rattle.cel_policy.specs.Policy.{skip}
 use borrow.Author.Tests.{eq-eqb, ne_eqb}
 use Rattle.pieces.specs.Laws.{wrote_none, wrote_then}
-use Rattle.report.specs.Policy.{listsLines}
+use Rattle.report.specs.Policy.{lists_lines}
 use borrow.Author.Rules.{rules}
 use Rattle.report.proofs.policy.put_lists.Statement.{statement}
 use Rattle.report.proofs.policy.put_lists.Tie as tie
 
 returns : tie.Need-returns
-unfolding listsLines
+unfolding lists_lines
 returns c =
     let s = c.before.before.before.before.before in
     rw (eq-eqb s.args.policy.form skip c.if1.true) (wrote_none s.args.out.now s.args.at)
@@ -44,7 +44,7 @@ same_length : tie.Need-same-length
 same_length c = search rules
 
 returns-2 : tie.Need-returns-2
-unfolding listsLines
+unfolding lists_lines
 returns-2 c =
     let u = c.before.before in
     let v = u.before.before.before.before in

@@ -1,6 +1,6 @@
 -- `policy::put_policy` meets its contract: its pieces are those of the definition. Assumes nothing.
 use Rattle.pieces.specs.Laws.{wrote_then}
-use Rattle.report.specs.Policy.{policyText}
+use Rattle.report.specs.Policy.{policy_text}
 use borrow.Author.Rules.{rules}
 use Rattle.report.proofs.policy.put_policy.Statement.{statement}
 use Rattle.report.proofs.policy.put_policy.Tie as tie
@@ -21,7 +21,7 @@ same_length : tie.Need-same-length
 same_length c = search rules
 
 returns : tie.Need-returns
-unfolding policyText
+unfolding policy_text
 returns c =
     let u = c.before.before in
     let v = u.before.before.before.before in

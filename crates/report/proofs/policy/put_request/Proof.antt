@@ -2,13 +2,13 @@
 use Rattle.cel_policy.specs.Policy.{full}
 use borrow.Author.Tests.{eq-eqb, ne_eqb}
 use Rattle.pieces.specs.Laws.{wrote_none, wrote_then}
-use Rattle.report.specs.Policy.{requestLines}
+use Rattle.report.specs.Policy.{request_lines}
 use borrow.Author.Rules.{rules}
 use Rattle.report.proofs.policy.put_request.Statement.{statement}
 use Rattle.report.proofs.policy.put_request.Tie as tie
 
 returns : tie.Need-returns
-unfolding requestLines
+unfolding request_lines
 returns c =
     let s = c.before.before.before.before.before in
     rw (ne_eqb s.args.policy.form full c.if1.true) (wrote_none s.args.out.now s.args.at)
@@ -29,7 +29,7 @@ same_length : tie.Need-same-length
 same_length c = search rules
 
 returns-2 : tie.Need-returns-2
-unfolding requestLines
+unfolding request_lines
 returns-2 c =
     let u = c.before.before in
     let v = u.before.before.before.before in

@@ -1,6 +1,6 @@
 -- `policy::put_size` meets its contract: its pieces are those of the definition. Assumes nothing.
 use Rattle.pieces.specs.Laws.{wrote_then}
-use Rattle.report.specs.Policy.{sizeText}
+use Rattle.report.specs.Policy.{size_text}
 use borrow.Author.Rules.{rules}
 use Rattle.report.proofs.policy.put_size.Statement.{statement}
 use Rattle.report.proofs.policy.put_size.Tie as tie
@@ -27,7 +27,7 @@ same_length : tie.Need-same-length
 same_length c = search rules
 
 returns : tie.Need-returns
-unfolding sizeText
+unfolding size_text
 returns c =
     wrote_then c.before.before.before.before.before.before.before.before.say.ensures c.before.before.say2.ensures
 

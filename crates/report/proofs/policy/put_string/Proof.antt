@@ -2,7 +2,7 @@
 use Prim.Native.Nat.{◌+◌}
 use borrow.Author.Tests.{le-leb, lt-leb}
 use Rattle.pieces.specs.Laws.{wrote_then}
-use Rattle.report.specs.Policy.{stringText}
+use Rattle.report.specs.Policy.{string_text}
 use borrow.Author.Rules.{rules}
 use Rattle.report.proofs.policy.put_string.Statement.{statement}
 use Rattle.report.proofs.policy.put_string.Tie as tie
@@ -29,7 +29,7 @@ same_length : tie.Need-same-length
 same_length c = search rules
 
 returns : tie.Need-returns
-unfolding stringText
+unfolding string_text
 returns c =
     let u = c.before.before in
     let v = u.before.before.before.before.before in
@@ -58,7 +58,7 @@ same-length-2 : tie.Need-same-length-2
 same-length-2 c = search rules
 
 returns-2 : tie.Need-returns-2
-unfolding stringText
+unfolding string_text
 returns-2 c =
     let u = c.before.before in
     let v = u.before.before.before.before.before in

@@ -1,17 +1,17 @@
 -- `policy::put_strings` meets its contract: each string is one piece more. Assumes nothing.
 use mathlib.Core.Path.{◌≡◌}
 use Prim.Native.Nat.{◌-◌, ◌≤◌}
-use Rattle.cel_policy.specs.Spans.{spansAt}
+use Rattle.cel_policy.specs.Spans.{spans_at}
 use Rattle.pieces.specs.Pieces.{Wrote}
 use Rattle.pieces.specs.Laws.{wrote_none, wrote_then, wrote-length}
-use Rattle.report.specs.Policy.{stringsText}
+use Rattle.report.specs.Policy.{strings_text}
 use Rattle.report.proofs.Parts.{strings-more}
 use Rattle.report.proofs.policy.put_strings.Statement.{statement}
 use Rattle.report.proofs.policy.put_strings.Tie as tie
 use native.Mathlib.Omega.{arith}
 
 abbrev invariant-loop : tie.invariant-loop
-invariant-loop out₀ at text spans first count end₀ i₀ out end i = (Wrote out₀ out at end (stringsText text (spansAt spans i first))) × (i ≤ count)
+invariant-loop out₀ at text spans first count end₀ i₀ out end i = (Wrote out₀ out at end (strings_text text (spans_at spans i first))) × (i ≤ count)
 
 abbrev decreases-loop : tie.decreases-loop
 decreases-loop out₀ at text spans first count end₀ i₀ out end i = count - i

@@ -1,5 +1,5 @@
 -- `policy::put_title` meets its contract: by its definition. Assumes nothing.
-use Rattle.report.specs.Policy.{titleText}
+use Rattle.report.specs.Policy.{title_text}
 use borrow.Author.Rules.{rules}
 use Rattle.report.proofs.policy.put_title.Statement.{statement}
 use Rattle.report.proofs.policy.put_title.Tie as tie
@@ -14,7 +14,7 @@ same_length : tie.Need-same-length
 same_length c = search rules
 
 returns : tie.Need-returns
-unfolding titleText
+unfolding title_text
 returns c =
     rw (← c.before.before.before.title.ensures) c.before.before.put-message.ensures
 

@@ -1,5 +1,5 @@
 -- `refusal::put_choice` meets its contract: by its definition. Assumes nothing.
-use Rattle.report.specs.Refusal.{choiceText}
+use Rattle.report.specs.Refusal.{choice_text}
 use borrow.Author.Rules.{rules}
 use Rattle.report.proofs.refusal.put_choice.Statement.{statement}
 use Rattle.report.proofs.refusal.put_choice.Tie as tie
@@ -11,7 +11,7 @@ same_length : tie.Need-same-length
 same_length c = search rules
 
 returns : tie.Need-returns
-unfolding choiceText
+unfolding choice_text
 returns c =
     c.before.before.put-message.ensures
 

@@ -1,6 +1,6 @@
 -- `refusal::put_instead` meets its contract: its pieces are those of the definition. Assumes nothing.
 use Rattle.pieces.specs.Laws.{wrote_then}
-use Rattle.report.specs.Refusal.{insteadText}
+use Rattle.report.specs.Refusal.{instead_text}
 use borrow.Author.Rules.{rules}
 use Rattle.report.proofs.refusal.put_instead.Statement.{statement}
 use Rattle.report.proofs.refusal.put_instead.Tie as tie
@@ -21,7 +21,7 @@ same_length : tie.Need-same-length
 same_length c = search rules
 
 returns : tie.Need-returns
-unfolding insteadText
+unfolding instead_text
 returns c =
     let u = c.before.before in
     let v = u.before.before.before.before.before in

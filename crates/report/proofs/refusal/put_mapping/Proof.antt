@@ -1,6 +1,6 @@
 -- `refusal::put_mapping` meets its contract: by its cases. Assumes nothing.
 use borrow.Author.Tests.{ne_eqb}
-use Rattle.report.specs.Refusal.{mappingText}
+use Rattle.report.specs.Refusal.{mapping_text}
 use borrow.Author.Rules.{rules}
 use Rattle.report.proofs.refusal.put_mapping.Statement.{statement}
 use Rattle.report.proofs.refusal.put_mapping.Tie as tie
@@ -33,7 +33,7 @@ same_length : tie.Need-same-length
 same_length c = search rules
 
 returns : tie.Need-returns
-unfolding mappingText
+unfolding mapping_text
 returns c =
     rw c.before.before.before.before.before.match.keys1 c.before.before.put_wrong.ensures
 
@@ -41,7 +41,7 @@ same-length-2 : tie.Need-same-length-2
 same-length-2 c = search rules
 
 returns-2 : tie.Need-returns-2
-unfolding mappingText
+unfolding mapping_text
 returns-2 c =
     rw c.before.before.before.before.before.match.keys2 c.before.before.put-wrong2.ensures
 
@@ -49,7 +49,7 @@ same-length-3 : tie.Need-same-length-3
 same-length-3 c = search rules
 
 returns-3 : tie.Need-returns-3
-unfolding mappingText
+unfolding mapping_text
 returns-3 c =
     rw c.before.before.before.before.match.keys3 c.before.before.put-no-argument.ensures
 
@@ -57,7 +57,7 @@ same-length-4 : tie.Need-same-length-4
 same-length-4 c = search rules
 
 returns-4 : tie.Need-returns-4
-unfolding mappingText
+unfolding mapping_text
 returns-4 c =
     rw c.before.before.before.before.match.keys4 c.before.before.put-no-property.ensures
 
@@ -65,7 +65,7 @@ same-length-5 : tie.Need-same-length-5
 same-length-5 c = search rules
 
 returns-5 : tie.Need-returns-5
-unfolding mappingText
+unfolding mapping_text
 returns-5 c =
     let r = c.before.before.before.before.before.before.before.args.answer.refusal in
     let m = c.before.before.before.before.match.rest in

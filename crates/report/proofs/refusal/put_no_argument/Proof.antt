@@ -1,6 +1,6 @@
 -- `refusal::put_no_argument` meets its contract: its pieces are those of the definition. Assumes nothing.
 use Rattle.pieces.specs.Laws.{wrote_then}
-use Rattle.report.specs.Refusal.{noArgumentText}
+use Rattle.report.specs.Refusal.{no_argument_text}
 use borrow.Author.Rules.{rules}
 use Rattle.report.proofs.refusal.put_no_argument.Statement.{statement}
 use Rattle.report.proofs.refusal.put_no_argument.Tie as tie
@@ -18,7 +18,7 @@ same_length : tie.Need-same-length
 same_length c = search rules
 
 returns : tie.Need-returns
-unfolding noArgumentText
+unfolding no_argument_text
 returns c =
     wrote_then c.before.before.before.before.before.before.say.ensures c.before.before.put-instead.ensures
 

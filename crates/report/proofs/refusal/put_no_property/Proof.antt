@@ -1,6 +1,6 @@
 -- `refusal::put_no_property` meets its contract: its pieces are those of the definition. Assumes nothing.
 use Rattle.pieces.specs.Laws.{wrote_then}
-use Rattle.report.specs.Refusal.{noPropertyText}
+use Rattle.report.specs.Refusal.{no_property_text}
 use borrow.Author.Rules.{rules}
 use Rattle.report.proofs.refusal.put_no_property.Statement.{statement}
 use Rattle.report.proofs.refusal.put_no_property.Tie as tie
@@ -30,7 +30,7 @@ same_length : tie.Need-same-length
 same_length c = search rules
 
 returns : tie.Need-returns
-unfolding noPropertyText
+unfolding no_property_text
 returns c =
     let u = c.before.before in
     let v = u.before.before.before.before.before in

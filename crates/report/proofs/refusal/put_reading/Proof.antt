@@ -1,5 +1,5 @@
 -- `refusal::put_reading` meets its contract: by its definition. Assumes nothing.
-use Rattle.report.specs.Refusal.{readingText}
+use Rattle.report.specs.Refusal.{reading_text}
 use borrow.Author.Rules.{rules}
 use Rattle.report.proofs.refusal.put_reading.Statement.{statement}
 use Rattle.report.proofs.refusal.put_reading.Tie as tie
@@ -14,7 +14,7 @@ same_length : tie.Need-same-length
 same_length c = search rules
 
 returns : tie.Need-returns
-unfolding readingText
+unfolding reading_text
 returns c =
     rw (← c.before.before.before.message.ensures) c.before.before.put-message.ensures
 

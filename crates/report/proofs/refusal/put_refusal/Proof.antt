@@ -1,9 +1,9 @@
 -- `refusal::put_refusal` meets its contract: its pieces are those of a refusal about a byte, or about a node. Assumes nothing.
-use Rattle.cel_text.specs.Reading.{tooMany}
-use Rattle.cel_text.specs.Answer.{faultNumber}
+use Rattle.cel_text.specs.Reading.{too_many}
+use Rattle.cel_text.specs.Answer.{fault_number}
 use borrow.Author.Tests.{le-leb, lt-leb}
 use Rattle.pieces.specs.Laws.{wrote_then}
-use Rattle.report.specs.Refusal.{refusalText}
+use Rattle.report.specs.Refusal.{refusal_text}
 use borrow.Author.Rules.{rules}
 use Rattle.report.proofs.refusal.put_refusal.Statement.{statement}
 use Rattle.report.proofs.refusal.put_refusal.Tie as tie
@@ -33,7 +33,7 @@ same_length : tie.Need-same-length
 same_length c = search rules
 
 returns : tie.Need-returns
-unfolding refusalText
+unfolding refusal_text
 returns c =
     let u = c.before.before in
     let v = u.before.before.before.before in
@@ -44,7 +44,7 @@ returns c =
     let r = b.args.answer.refusal in
     let h = z.if1.true in
     let w = y.within.ensures in
-    rw (le-leb r (faultNumber tooMany) h, ← w) (wrote_then a.say.ensures (wrote_then v.put-reading.ensures u.put-byte-place.ensures))
+    rw (le-leb r (fault_number too_many) h, ← w) (wrote_then a.say.ensures (wrote_then v.put-reading.ensures u.put-byte-place.ensures))
 
 kind-requires : tie.Need-kind-requires
 kind-requires c κs = search rules
@@ -62,7 +62,7 @@ same-length-2 : tie.Need-same-length-2
 same-length-2 c = search rules
 
 returns-2 : tie.Need-returns-2
-unfolding refusalText
+unfolding refusal_text
 returns-2 c =
     let u = c.before.before in
     let v = u.before in
@@ -75,7 +75,7 @@ returns-2 c =
     let h = z.if1.false in
     let k = y.kind.ensures in
     let t = v.start.ensures.0 in
-    rw (lt-leb r (faultNumber tooMany) h, ← k, ← t) (wrote_then a.say.ensures (wrote_then w.put-mapping.ensures u.put-node-place.ensures))
+    rw (lt-leb r (fault_number too_many) h, ← k, ← t) (wrote_then a.say.ensures (wrote_then w.put-mapping.ensures u.put-node-place.ensures))
 
 pub put-refusal-spec : {M : Type 1} → statement M
 put-refusal-spec =

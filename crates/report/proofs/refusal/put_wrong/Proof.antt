@@ -1,6 +1,6 @@
 -- `refusal::put_wrong` meets its contract: its pieces are those of the definition. Assumes nothing.
 use Rattle.pieces.specs.Laws.{wrote_then}
-use Rattle.report.specs.Refusal.{wrongText}
+use Rattle.report.specs.Refusal.{wrong_text}
 use borrow.Author.Rules.{rules}
 use Rattle.report.proofs.refusal.put_wrong.Statement.{statement}
 use Rattle.report.proofs.refusal.put_wrong.Tie as tie
@@ -24,7 +24,7 @@ same_length : tie.Need-same-length
 same_length c = search rules
 
 returns : tie.Need-returns
-unfolding wrongText
+unfolding wrong_text
 returns c =
     let u = c.before.before in
     let v = u.before.before.before.before in

@@ -1,14 +1,14 @@
 -- `window::back` meets its contract: what is left to pass gives what the whole gives. Assumes nothing.
 use mathlib.Core.Path.{◌≡◌, refl, sym, ap, ◌∙◌}
 use Prim.Native.Nat.{ℕ, ◌+◌, ◌-◌, ◌≤◌}
-use Rattle.report.specs.Window.{back, backFrom}
+use Rattle.report.specs.Window.{back, back_from}
 use Rattle.report.proofs.Walks.{back-stop, back_more, back_end}
 use Rattle.report.proofs.window.back.Statement.{statement}
 use Rattle.report.proofs.window.back.Tie as tie
 use native.Mathlib.Omega.{arith}
 
 abbrev invariant-loop : tie.invariant-loop
-invariant-loop text room at₀ columns₀ at columns = (at ≤ at₀) × (columns ≤ room) × (backFrom text room at₀ 0 ≡ backFrom text room at columns)
+invariant-loop text room at₀ columns₀ at columns = (at ≤ at₀) × (columns ≤ room) × (back_from text room at₀ 0 ≡ back_from text room at columns)
 
 abbrev decreases-loop : tie.decreases-loop
 decreases-loop text room at₀ columns₀ at columns = at
@@ -53,7 +53,7 @@ loop-again c =
     let k = c.before.columns in
     let x = s.args.text.now in
     let more = back_more x s.args.room l.at l.columns c.before.before.before.loop-test.true (omega (arith, c.if1.false, k.ensures)) in
-    let same = ap (λ (n : ℕ). backFrom x s.args.room (l.at - 1) (l.columns + n)) (sym k.ensures) in
+    let same = ap (λ (n : ℕ). back_from x s.args.room (l.at - 1) (l.columns + n)) (sym k.ensures) in
     (omega arith, omega arith, l.invariant.2 ∙ more ∙ same)
 
 returns-2 : tie.Need-returns-2 invariant-loop decreases-loop

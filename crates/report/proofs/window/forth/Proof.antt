@@ -2,14 +2,14 @@
 use mathlib.Core.Path.{◌≡◌, refl, sym, ap, ◌∙◌}
 use Prim.Native.Nat.{ℕ, ◌+◌, ◌-◌, ◌≤◌}
 use lib.ListN.{length, drop}
-use Rattle.report.specs.Window.{forth, forthFrom}
+use Rattle.report.specs.Window.{forth, forth_from}
 use Rattle.report.proofs.Walks.{forth-stop, forth-more, forth-end}
 use Rattle.report.proofs.window.forth.Statement.{statement}
 use Rattle.report.proofs.window.forth.Tie as tie
 use native.Mathlib.Omega.{arith}
 
 abbrev invariant-loop : tie.invariant-loop
-invariant-loop text room at₀ columns₀ at columns = (at ≤ length text) × (columns ≤ room) × (forthFrom (drop at₀ text) room at₀ 0 ≡ forthFrom (drop at text) room at columns)
+invariant-loop text room at₀ columns₀ at columns = (at ≤ length text) × (columns ≤ room) × (forth_from (drop at₀ text) room at₀ 0 ≡ forth_from (drop at text) room at columns)
 
 abbrev decreases-loop : tie.decreases-loop
 decreases-loop text room at₀ columns₀ at columns = length text - at
@@ -51,7 +51,7 @@ loop-again c =
     let k = c.before.columns in
     let x = s.args.text.now in
     let more = forth-more x s.args.room l.at l.columns c.before.before.before.loop-test.true (omega (arith, c.if1.false, k.ensures)) in
-    let same = ap (λ (n : ℕ). forthFrom (drop (l.at + 1) x) s.args.room (l.at + 1) (l.columns + n)) (sym k.ensures) in
+    let same = ap (λ (n : ℕ). forth_from (drop (l.at + 1) x) s.args.room (l.at + 1) (l.columns + n)) (sym k.ensures) in
     (omega arith, omega arith, l.invariant.2 ∙ more ∙ same)
 
 returns-2 : tie.Need-returns-2 invariant-loop decreases-loop

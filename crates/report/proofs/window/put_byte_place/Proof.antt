@@ -1,6 +1,6 @@
 -- `window::put_byte_place` meets its contract: its pieces are those of the definition. Assumes nothing.
 use Rattle.pieces.specs.Laws.{wrote_then}
-use Rattle.report.specs.Window.{bytePlaceText}
+use Rattle.report.specs.Window.{byte_place_text}
 use borrow.Author.Rules.{rules}
 use Rattle.report.proofs.window.put_byte_place.Statement.{statement}
 use Rattle.report.proofs.window.put_byte_place.Tie as tie
@@ -15,7 +15,7 @@ same_length : tie.Need-same-length
 same_length c = search rules
 
 returns : tie.Need-returns
-unfolding bytePlaceText
+unfolding byte_place_text
 returns c =
     wrote_then c.before.before.before.before.before.before.put-caret.ensures c.before.before.put-place.ensures
 

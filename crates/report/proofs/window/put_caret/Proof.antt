@@ -1,6 +1,6 @@
 -- `window::put_caret` meets its contract: its pieces are those of the text between the two sides. Assumes nothing.
 use Rattle.pieces.specs.Laws.{wrote_then}
-use Rattle.report.specs.Window.{betweenText}
+use Rattle.report.specs.Window.{between_text}
 use Rattle.report.proofs.Walks.{caret-is}
 use borrow.Author.Rules.{rules}
 use Rattle.report.proofs.window.put_caret.Statement.{statement}
@@ -46,7 +46,7 @@ same_length : tie.Need-same-length
 same_length c = search rules
 
 returns : tie.Need-returns
-unfolding betweenText
+unfolding between_text
 returns c =
     let u = c.before.before in
     let v = u.before.before.before.before.before in

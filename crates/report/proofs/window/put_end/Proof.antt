@@ -1,5 +1,5 @@
 -- `window::put_end` meets its contract: by its cases. Assumes nothing.
-use Rattle.report.specs.Window.{endText}
+use Rattle.report.specs.Window.{end_text}
 use borrow.Author.Rules.{rules}
 use Rattle.report.proofs.window.put_end.Statement.{statement}
 use Rattle.report.proofs.window.put_end.Tie as tie
@@ -14,7 +14,7 @@ same_length : tie.Need-same-length
 same_length c = search rules
 
 returns : tie.Need-returns
-unfolding endText
+unfolding end_text
 returns c =
     rw c.before.before.before.before.before.if1.true c.before.before.say.ensures
 
@@ -28,7 +28,7 @@ same-length-2 : tie.Need-same-length-2
 same-length-2 c = search rules
 
 returns-2 : tie.Need-returns-2
-unfolding endText
+unfolding end_text
 returns-2 c =
     rw c.before.before.before.before.before.if1.false c.before.before.say2.ensures
 

@@ -1,6 +1,6 @@
 -- `window::put_margin` meets its contract: by its cases. Assumes nothing.
 use borrow.Author.Tests.{eq-eqb, ne_eqb}
-use Rattle.report.specs.Window.{marginText}
+use Rattle.report.specs.Window.{margin_text}
 use borrow.Author.Rules.{rules}
 use Rattle.report.proofs.window.put_margin.Statement.{statement}
 use Rattle.report.proofs.window.put_margin.Tie as tie
@@ -15,7 +15,7 @@ same_length : tie.Need-same-length
 same_length c = search rules
 
 returns : tie.Need-returns
-unfolding marginText
+unfolding margin_text
 returns c =
     rw (eq-eqb c.before.before.before.before.before.before.before.args.from 0 c.before.before.before.before.before.if1.true) c.before.before.say.ensures
 
@@ -29,7 +29,7 @@ same-length-2 : tie.Need-same-length-2
 same-length-2 c = search rules
 
 returns-2 : tie.Need-returns-2
-unfolding marginText
+unfolding margin_text
 returns-2 c =
     rw (ne_eqb c.before.before.before.before.before.before.before.args.from 0 c.before.before.before.before.before.if1.false) c.before.before.say2.ensures
 

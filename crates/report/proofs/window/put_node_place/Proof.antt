@@ -1,6 +1,6 @@
 -- `window::put_node_place` meets its contract: its pieces are those of the definition. Assumes nothing.
 use Rattle.pieces.specs.Laws.{wrote_then}
-use Rattle.report.specs.Window.{nodePlaceText}
+use Rattle.report.specs.Window.{node_place_text}
 use borrow.Author.Rules.{rules}
 use Rattle.report.proofs.window.put_node_place.Statement.{statement}
 use Rattle.report.proofs.window.put_node_place.Tie as tie
@@ -21,7 +21,7 @@ same_length : tie.Need-same-length
 same_length c = search rules
 
 returns : tie.Need-returns
-unfolding nodePlaceText
+unfolding node_place_text
 returns c =
     let u = c.before.before in
     let v = u.before.before.before.before in

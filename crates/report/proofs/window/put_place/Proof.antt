@@ -1,6 +1,6 @@
 -- `window::put_place` meets its contract: its pieces are those of the definition. Assumes nothing.
 use Rattle.pieces.specs.Laws.{wrote_then}
-use Rattle.report.specs.Window.{placeText}
+use Rattle.report.specs.Window.{place_text}
 use borrow.Author.Rules.{rules}
 use Rattle.report.proofs.window.put_place.Statement.{statement}
 use Rattle.report.proofs.window.put_place.Tie as tie
@@ -21,7 +21,7 @@ same_length : tie.Need-same-length
 same_length c = search rules
 
 returns : tie.Need-returns
-unfolding placeText
+unfolding place_text
 returns c =
     rw (← c.before.before.before.spot_of_lem.ensures) (wrote_then c.before.before.before.before.before.before.before.say.ensures c.before.before.put-spot.ensures)
 

@@ -1,13 +1,13 @@
 -- `window::put_spot` meets its contract: in the first line nothing is put, else two pieces. Assumes nothing.
 use borrow.Author.Tests.{eq-eqb, ne_eqb}
 use Rattle.pieces.specs.Laws.{wrote_none, wrote_then}
-use Rattle.report.specs.Window.{spotText}
+use Rattle.report.specs.Window.{spot_text}
 use borrow.Author.Rules.{rules}
 use Rattle.report.proofs.window.put_spot.Statement.{statement}
 use Rattle.report.proofs.window.put_spot.Tie as tie
 
 returns : tie.Need-returns
-unfolding spotText
+unfolding spot_text
 returns c =
     let s = c.before.before.before in
     rw (eq-eqb s.args.spot.line 1 c.if1.true) (wrote_none s.args.out.now s.args.at)
@@ -28,7 +28,7 @@ same_length : tie.Need-same-length
 same_length c = search rules
 
 returns-2 : tie.Need-returns-2
-unfolding spotText
+unfolding spot_text
 returns-2 c =
     let u = c.before.before in
     let v = u.before.before.before.before.before in

@@ -2,14 +2,14 @@
 use mathlib.Core.Path.{◌≡◌, refl, sym, ◌∙◌}
 use Prim.Native.Nat.{◌≤◌, ◌+◌, ◌-◌}
 use lib.ListN.{take, drop}
-use Rattle.report.specs.Window.{spot_of, afterBytes}
+use Rattle.report.specs.Window.{spot_of, after_bytes}
 use Rattle.report.proofs.Walks.{spot-more, spot-end}
 use Rattle.report.proofs.window.spot_of.Statement.{statement}
 use Rattle.report.proofs.window.spot_of.Tie as tie
 use native.Mathlib.Omega.{arith}
 
 abbrev invariant-loop : tie.invariant-loop
-invariant-loop text spot₀ end i₀ spot i = (i ≤ end) × (spot.line ≤ i + 1) × (spot.column ≤ i + 1) × (afterBytes spot₀ (take end text) ≡ afterBytes spot (drop i (take end text)))
+invariant-loop text spot₀ end i₀ spot i = (i ≤ end) × (spot.line ≤ i + 1) × (spot.column ≤ i + 1) × (after_bytes spot₀ (take end text) ≡ after_bytes spot (drop i (take end text)))
 
 abbrev decreases-loop : tie.decreases-loop
 decreases-loop text spot₀ end i₀ spot i = end - i

@@ -1,5 +1,5 @@
 -- `words::put_expected` meets its contract: by its definition. Assumes nothing.
-use Rattle.report.specs.Words.{expectedText}
+use Rattle.report.specs.Words.{expected_text}
 use borrow.Author.Rules.{rules}
 use Rattle.report.proofs.words.put_expected.Statement.{statement}
 use Rattle.report.proofs.words.put_expected.Tie as tie
@@ -11,7 +11,7 @@ same_length : tie.Need-same-length
 same_length c = search rules
 
 returns : tie.Need-returns
-unfolding expectedText
+unfolding expected_text
 returns c =
     c.before.before.put-message.ensures
 

@@ -1,5 +1,5 @@
 -- `words::put_found` meets its contract: by its definition. Assumes nothing.
-use Rattle.report.specs.Words.{foundText}
+use Rattle.report.specs.Words.{found_text}
 use borrow.Author.Rules.{rules}
 use Rattle.report.proofs.words.put_found.Statement.{statement}
 use Rattle.report.proofs.words.put_found.Tie as tie
@@ -14,7 +14,7 @@ same_length : tie.Need-same-length
 same_length c = search rules
 
 returns : tie.Need-returns
-unfolding foundText
+unfolding found_text
 returns c =
     c.before.before.put-message.ensures
 
