@@ -26,6 +26,12 @@ def snake(name):
     return "-".join(parts)
 
 
+# Constructors, a field and definitions: these are words, and a dash joins only the names in a lemma's.
+DASHED = """a-container a-string function-head in-function in-object no-child object-head with-name rows-put named-from certified-query-parameters
+certified-request-headers certified-response-headers default-certification no-certification no-request-certification request-certification
+response-certification response-header-exclusions""".split()
+
+
 def turned(word, known):
     """What port.py made of a word that a page or a wrong program names: it turns neither."""
     for new in (snake(word), snake(word).replace("-", "_")):
@@ -60,7 +66,7 @@ def main():
             words[word] += 1
             where[word].add(path)
     names = {word: snake(word) for word in words if CAMEL.search(word) and word not in KEPT}
-    names = {old: new for old, new in names.items() if old != new}
+    names = {old: new for old, new in names.items() if old != new} | {old: old.replace("-", "_") for old in DASHED}
     met = [(old, new) for old, new in names.items() if where[new] & where[old] - ONLY_A_PATH or list(names.values()).count(new) > 1]
     for old, new in met:
         print(f"{old}: {new} is there: {sorted(str(p) for p in where[new] & where[old])}", file=sys.stderr)

@@ -8,7 +8,7 @@ use lib.ListN.{length, get_or, length-append}
 use lib.Seq.{slice, get_or-drop}
 use Rattle.cel_text.specs.Byte.{Text, ◌⧺◌}
 use Rattle.cel_text.specs.Tree.{Kind, array, opener, closer, Key, unkeyed, key, Tree, string, container, Trees, ∅, ◌▸◌∶◌, nodes, nodes_all, count}
-use Rattle.cel_text.specs.Grammar.{Named, nameless, with-name, Head, array_head, object-head, function-head, Label, in_array, in-function, in-object, Value, a-string, a-container, no-child, one_more}
+use Rattle.cel_text.specs.Grammar.{Named, nameless, with_name, Head, array_head, object_head, function_head, Label, in_array, in_function, in_object, Value, a_string, a_container, no_child, one_more}
 use Rattle.cel_text.specs.Table.{Words, row, rows_of, rows_all, rows, row_words, key_from, key_to, kind_number, word}
 use Rattle.cel_text.specs.Reading.{read, accepted, limits, max_nodes}
 use Rattle.cel_text.specs.Laws.Sound.{sound, within}
@@ -32,17 +32,17 @@ abbrev mutual
 
 named-ends : {p : ℕ} {h : Text} {from to : ℕ} → Named p h from to → (from ≤ to) × (to ≤ p + length h)
 named-ends {p} (nameless {b = b} bs) = omega arith
-named-ends {p} (with-name {b = b} {i = i} {is = is} {c = c} bs n cs) = (omega arith, simp length-append (omega arith))
+named-ends {p} (with_name {b = b} {i = i} {is = is} {c = c} bs n cs) = (omega arith, simp length-append (omega arith))
 
 head-ends : {c : Kind} {p : ℕ} {h : Text} {from to : ℕ} → Head c p h from to → (from ≤ to) × (to ≤ p + length h)
 head-ends (array_head bs) = omega arith
-head-ends (object-head n) = named-ends n
-head-ends (function-head n) = named-ends n
+head-ends (object_head n) = named-ends n
+head-ends (function_head n) = named-ends n
 
 label-ends : {c : Kind} {p : ℕ} {l : Text} {k : Key} → Label c p l k → (key_from k ≤ key_to k) × (key_to k ≤ p + length l)
 label-ends in_array = omega arith
-label-ends in-function = omega arith
-label-ends {p = p} (in-object {l = l} n) = ((named-ends n).0, simp length-append (omega (arith, (named-ends n).1)))
+label-ends in_function = omega arith
+label-ends {p = p} (in_object {l = l} n) = ((named-ends n).0, simp length-append (omega (arith, (named-ends n).1)))
 
 module _ (S : ℕ → Bool) (L : ℕ) where
   inside-container : (p : ℕ) (c : Kind) (h v b : Text) (from to : ℕ) (ts : Trees) → Head c p h from to
@@ -62,9 +62,9 @@ module _ (S : ℕ → Bool) (L : ℕ) where
   inside-value : {p : ℕ} {v : Text} {t : Tree} → Value S p v t → p + length v ≤ L → Inside t L
   inside-value d =
       elim d as (λ p v t d. p + length v ≤ L → Inside t L) (λ c p vs ts d. p + length vs ≤ L → InsideAll ts L) [
-        | a-string bs is cs ↦ (λ l. tt)
-        | a-container {p = p} {c = c} {h = h} {v = v} {b = b} {from = from} {to = to} {ts = ts} hd (ch → ih) bs ↦ inside-container p c h v b from to ts hd ih
-        | no-child ↦ (λ l. tt)
+        | a_string bs is cs ↦ (λ l. tt)
+        | a_container {p = p} {c = c} {h = h} {v = v} {b = b} {from = from} {to = to} {ts = ts} hd (ch → ih) bs ↦ inside-container p c h v b from to ts hd ih
+        | no_child ↦ (λ l. tt)
         | one_more {c = c} {p = p} {vs = vs} {s = s} {l = l} {v = v} {ts = ts} {k = k} {t = t} (ch → h) sep lab (val → ih) ↦ inside-more p c vs s l v ts k t h lab ih
       ]
 

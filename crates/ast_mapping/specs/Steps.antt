@@ -5,7 +5,7 @@ use Rattle.cel_text.specs.Byte.{Text}
 use Rattle.cel_text.specs.Tree.{Kind, array, object, function}
 use Rattle.cel_text.specs.Reading.{max_nodes}
 use Rattle.cel_text.specs.Table.{Words, kind_number}
-use Rattle.cel_policy.specs.Names.{default-certification, certified-request-headers, certified-query-parameters, certified-response-headers, response-header-exclusions}
+use Rattle.cel_policy.specs.Names.{default_certification, certified_request_headers, certified_query_parameters, certified_response_headers, response_header_exclusions}
 use Rattle.cel_policy.specs.Policy.{Span, Policy, response_only, full, inclusions, exclusions}
 use Rattle.cel_policy.specs.Mapping.{Refusal, Mapped, good, bad, Request, Only, first, second, typed, lookup, string_array, list_at, skipped}
 use Rattle.ast_mapping.specs.View.{node_at, children, typed_at, strings_of, Held, Tabled}
@@ -47,10 +47,10 @@ pub record Looked (w : Words) (x : Text) (n name : ℕ) (r : Found) : Type 0 whe
 -- the kind that a name expects: the root a function, the four lists an array, all others an object
 abbrev pub expected_kind : ℕ → Kind
 expected_kind name =
-    cond (eqb name default-certification) function
-    (cond (leb certified-request-headers name)
-    (cond (leb name certified-query-parameters) array
-    (cond (leb certified-response-headers name) (cond (leb name response-header-exclusions) array object) object))
+    cond (eqb name default_certification) function
+    (cond (leb certified_request_headers name)
+    (cond (leb name certified_query_parameters) array
+    (cond (leb certified_response_headers name) (cond (leb name response_header_exclusions) array object) object))
     object)
 
 -- the struct of a refusal, in the numbers of SPEC.md

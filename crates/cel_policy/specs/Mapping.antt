@@ -6,9 +6,9 @@ use Rattle.std.proofs.Math.Seq.{slice}
 use Rattle.cel_text.specs.Byte.{Text}
 use Rattle.cel_text.specs.Tree.{Kind, array, object, function, Key, unkeyed, key, Tree, string, container, Trees, ∅, ◌▸◌∶◌, nodes_all}
 use Rattle.cel_text.specs.Table.{string_kind, kind_number}
-use Rattle.cel_policy.specs.Names.{same, spelling, default-certification, ValidationArgs, no-certification, certification, Certification, no-request-certification, request-certification}
-use Rattle.cel_policy.specs.Names.{RequestCertification, certified-request-headers, certified-query-parameters, response-certification, ResponseCertification, certified-response-headers}
-use Rattle.cel_policy.specs.Names.{response-header-exclusions, ResponseHeaderList, headers}
+use Rattle.cel_policy.specs.Names.{same, spelling, default_certification, ValidationArgs, no_certification, certification, Certification, no_request_certification, request_certification}
+use Rattle.cel_policy.specs.Names.{RequestCertification, certified_request_headers, certified_query_parameters, response_certification, ResponseCertification, certified_response_headers}
+use Rattle.cel_policy.specs.Names.{response_header_exclusions, ResponseHeaderList, headers}
 use Rattle.cel_policy.specs.Policy.{Span, Policy, skip, response_only, full, no_list, inclusions, exclusions}
 
 -- a tree as the mapping sees it: each node with its number; a string known by an A; a container with its kind and the bytes of its name
@@ -156,14 +156,14 @@ module _ {A : Type 0} where
   -- “In object 12, key 13 is judged, and then key 14.” “After both, two lists are refused with 15, none with 16.”
   unfoldable pub response_lists : Typed A → Mapped (Only (List A))
   response_lists o =
-      and_then (list_of certified-response-headers (lookup certified-response-headers o.children)) (λ included.
-      and_then (list_of response-header-exclusions (lookup response-header-exclusions o.children)) (λ excluded.
+      and_then (list_of certified_response_headers (lookup certified_response_headers o.children)) (λ included.
+      and_then (list_of response_header_exclusions (lookup response_header_exclusions o.children)) (λ excluded.
       exactly_one 15 16 o.number included excluded))
 
   -- “Object 5 has key 11, or is refused with 10, and its value should be object 12.”
   unfoldable pub response_part : Typed A → Mapped (Only (List A))
   response_part o =
-      and_then (present response-certification o.number (lookup response-certification o.children)) (λ n.
+      and_then (present response_certification o.number (lookup response_certification o.children)) (λ n.
       and_then (typed object ResponseCertification n) response_lists)
 
   -- 3. “Object 8 has key 9, a string array with the request headers, and then key 10, one with the query parameters. A key that is missing is refused with
@@ -173,8 +173,8 @@ module _ {A : Type 0} where
 
   unfoldable pub request_lists : Typed A → Mapped (Option (Request A))
   request_lists o =
-      and_then (list_at certified-request-headers o) (λ hs.
-      and_then (list_at certified-query-parameters o) (λ qs.
+      and_then (list_at certified_request_headers o) (λ hs.
+      and_then (list_at certified_query_parameters o) (λ qs.
       good (some (record { request_headers = hs; query_parameters = qs }))))
 
   -- “With key 6 there is no request part, whatever stands there. With key 7 its value should be object 8.”
@@ -185,7 +185,7 @@ module _ {A : Type 0} where
   -- “Object 5 has either key 6 or key 7: both are refused with 13, neither with 14.”
   unfoldable pub request_part : Typed A → Mapped (Option (Request A))
   request_part o =
-      and_then (exactly_one 13 14 o.number (lookup no-request-certification o.children) (lookup request-certification o.children)) request_of
+      and_then (exactly_one 13 14 o.number (lookup no_request_certification o.children) (lookup request_certification o.children)) request_of
 
   -- the response list and its kind. “The list of key 13 is inclusions, that of key 14 exclusions.”
   abbrev pub list_kind : Only (List A) → ℕ
@@ -217,12 +217,12 @@ module _ {A : Type 0} where
   -- “Object 2 has either key 3 or key 4: both are refused with 11, neither with 12.”
   unfoldable pub validation_args : Typed A → Mapped (Policy A)
   validation_args o =
-      and_then (exactly_one 11 12 o.number (lookup no-certification o.children) (lookup certification o.children)) certification_of
+      and_then (exactly_one 11 12 o.number (lookup no_certification o.children) (lookup certification o.children)) certification_of
 
   -- 1. “The root should be function 1. A function 1 without an argument is refused with 9. Its first argument should be object 2, and no other argument is
   -- looked at.”
   unfoldable pub mapping : Node A → Mapped (Policy A)
   mapping root =
-      and_then (typed function default-certification root) (λ f.
+      and_then (typed function default_certification root) (λ f.
       and_then (first_child f.number f.children) (λ argument.
       and_then (typed object ValidationArgs argument) validation_args))

@@ -36,14 +36,14 @@ unfoldable pub spelling : ℕ → Text
 spelling name = get_or spellings name []
 
 -- the numbers, in the order of the list
-abbrev pub default-certification : ℕ
-default-certification = 1
+abbrev pub default_certification : ℕ
+default_certification = 1
 
 abbrev pub ValidationArgs : ℕ
 ValidationArgs = 2
 
-abbrev pub no-certification : ℕ
-no-certification = 3
+abbrev pub no_certification : ℕ
+no_certification = 3
 
 abbrev pub certification : ℕ
 certification = 4
@@ -51,32 +51,32 @@ certification = 4
 abbrev pub Certification : ℕ
 Certification = 5
 
-abbrev pub no-request-certification : ℕ
-no-request-certification = 6
+abbrev pub no_request_certification : ℕ
+no_request_certification = 6
 
-abbrev pub request-certification : ℕ
-request-certification = 7
+abbrev pub request_certification : ℕ
+request_certification = 7
 
 abbrev pub RequestCertification : ℕ
 RequestCertification = 8
 
-abbrev pub certified-request-headers : ℕ
-certified-request-headers = 9
+abbrev pub certified_request_headers : ℕ
+certified_request_headers = 9
 
-abbrev pub certified-query-parameters : ℕ
-certified-query-parameters = 10
+abbrev pub certified_query_parameters : ℕ
+certified_query_parameters = 10
 
-abbrev pub response-certification : ℕ
-response-certification = 11
+abbrev pub response_certification : ℕ
+response_certification = 11
 
 abbrev pub ResponseCertification : ℕ
 ResponseCertification = 12
 
-abbrev pub certified-response-headers : ℕ
-certified-response-headers = 13
+abbrev pub certified_response_headers : ℕ
+certified_response_headers = 13
 
-abbrev pub response-header-exclusions : ℕ
-response-header-exclusions = 14
+abbrev pub response_header_exclusions : ℕ
+response_header_exclusions = 14
 
 abbrev pub ResponseHeaderList : ℕ
 ResponseHeaderList = 15

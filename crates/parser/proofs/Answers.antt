@@ -42,7 +42,7 @@ find-value x w w' p h e b (Next r) v =
     record {
       found = v.tree;
       finds = find-read x p h e b ∙ ap found (v.reading root (record { below = refl; sofar = refl }));
-      rows-put = v.rows unkeyed refl refl;
+      rows_put = v.rows unkeyed refl refl;
       sized = v.sized;
     }
 find-value x w w' p h e b (Refused r q) v =
@@ -102,7 +102,7 @@ module _ (x : Text) (w : Words) (h : node_words ≤ length w) where
   over-front w' (Next r) f h' =
       let t : Tree = f.found in
       let fits : length (rows t) ≤ node_words = omega (arith, length-rows_of t unkeyed 0 0, f.sized.counts, f.sized.room) in
-      ap (λ (l : Words). l ++ drop node_words w) (clear_none w' node_words h' ∙ f.rows-put)
+      ap (λ (l : Words). l ++ drop node_words w) (clear_none w' node_words h' ∙ f.rows_put)
       ∙ put_front node_words (rows t) w fits h
       ∙ over-found (tree t r.end.0) f.finds
   over-front w' (Refused r p) f h' =

@@ -109,17 +109,17 @@ unfolding step
 named_past w from to p b nb = rw nb
 
 -- the name that a value's row shows: none for an array
-abbrev pub named-from : (kind place : ℕ) → ℕ
-named-from kind p = cond (eqb kind (kind_number array)) 0 p
+abbrev pub named_from : (kind place : ℕ) → ℕ
+named_from kind p = cond (eqb kind (kind_number array)) 0 p
 
 -- the byte that opens a value, after an identifier and after none
-past-opens : (K : Stack) (from to p b : ℕ) → past string_set limits (value K) from to p b ≡ opens (opener_kind false b) K (named-from (opener_kind false b) from) (named-from (opener_kind false b) to) p
+past-opens : (K : Stack) (from to p b : ℕ) → past string_set limits (value K) from to p b ≡ opens (opener_kind false b) K (named_from (opener_kind false b) from) (named_from (opener_kind false b) to) p
 unfolding past
 past-opens K from to p b =
     cases (eqb b (opener object)) (λ t. rw t) (λ t₁. cases (eqb b (opener function)) (λ t. rw (t₁, t))
     (λ t₂. cases (eqb b (opener array)) (λ t. rw (t₁, t₂, t)) (λ t₃. cases (eqb b quote) (λ t. rw (t₁, t₂, t₃, t)) (λ t. rw (t₁, t₂, t₃, t)))))
 
-bare-opens : (K : Stack) (p b : ℕ) → bare string_set limits (value K) p b ≡ opens (opener_kind true b) K (named-from (opener_kind true b) p) (named-from (opener_kind true b) p) p
+bare-opens : (K : Stack) (p b : ℕ) → bare string_set limits (value K) p b ≡ opens (opener_kind true b) K (named_from (opener_kind true b) p) (named_from (opener_kind true b) p) p
 unfolding bare past
 bare-opens K p b =
     cases (eqb b (opener object)) (λ t. rw (eqb-true b (opener object) t))
@@ -177,11 +177,11 @@ module _ (x : Text) {p from to end : ℕ} (n : NamedAt x p from to end) where
   over-key K f = over-name (entry K f) ∙ ap (λ (s : Step). goes_on s x end) (past-entry K f)
 
   past_value : (K : Stack) → past_name (value K) from to end (get_or x end 0)
-      ≡ opens (opener_kind (eqb from to) (get_or x end 0)) K (named-from (opener_kind (eqb from to) (get_or x end 0)) from) (named-from (opener_kind (eqb from to) (get_or x end 0)) to) end
+      ≡ opens (opener_kind (eqb from to) (get_or x end 0)) K (named_from (opener_kind (eqb from to) (get_or x end 0)) from) (named_from (opener_kind (eqb from to) (get_or x end 0)) to) end
   past_value K = cases (eqb from to) same (λ t. rw t (past-opens K from to end (get_or x end 0)))
     where
       same : eqb from to ≡ true → past_name (value K) from to end (get_or x end 0)
-          ≡ opens (opener_kind (eqb from to) (get_or x end 0)) K (named-from (opener_kind (eqb from to) (get_or x end 0)) from) (named-from (opener_kind (eqb from to) (get_or x end 0)) to) end
+          ≡ opens (opener_kind (eqb from to) (get_or x end 0)) K (named_from (opener_kind (eqb from to) (get_or x end 0)) from) (named_from (opener_kind (eqb from to) (get_or x end 0)) to) end
       same t =
           let e : to ≡ from = sym (eqb-true from to t) in
           let here : end ≡ from = empty-ends (sym e) in
@@ -189,7 +189,7 @@ module _ (x : Text) {p from to end : ℕ} (n : NamedAt x p from to end) where
 
   -- the opener of a value
   pub over-opener : (K : Stack) (kind : ℕ) → kind ≡ opener_kind (eqb from to) (get_or x end 0)
-      → reads (before (value K)) x p ≡ goes_on (opens kind K (named-from kind from) (named-from kind to) end) x end
+      → reads (before (value K)) x p ≡ goes_on (opens kind K (named_from kind from) (named_from kind to) end) x end
   over-opener K kind e = rw e (over-name (value K) ∙ ap (λ (s : Step). goes_on s x end) (past_value K))
 
 -- the byte b at place p, which is neither content nor blank, in a string whose content ends at `to`

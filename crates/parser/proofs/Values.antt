@@ -15,7 +15,7 @@ use Rattle.parser.specs.Run.{end_of, NamedAt}
 use Rattle.parser.specs.Kinds.{kind_of, opener_kind, opens, open_state}
 use Rattle.parser.specs.Steps.{reads, goes_on, Around, RefusedBy, Headed, Entered, NotEntered, Sized, WholeValue, WholeList}
 use Rattle.parser.proofs.Runs.{end-within, byte-within}
-use Rattle.parser.proofs.Machine.{named-from, over-opener, over-string}
+use Rattle.parser.proofs.Machine.{named_from, over-opener, over-string}
 use Rattle.parser.proofs.Rows.{rows-string, rows-container}
 
 -- ---- the limits
@@ -105,7 +105,7 @@ opener-numbered e b h₀ h₁ =
     mark : eqb b (opener object) ≡ false → eqb b (opener function) ≡ false → eqb b (opener array) ≡ false → eqb b quote ≡ true → kind_number (kind_of (opener_kind e b)) ≡ opener_kind e b
     mark t₁ t₂ t₃ t = cases e (λ y. absurd (h₁ (rw (t₁, t₂, t₃, t, y)))) (λ y. absurd (h₀ (rw (t₁, t₂, t₃, t, y))))
 
-named_in : (kind p l : ℕ) → p ≤ l → named-from kind p ≤ l
+named_in : (kind p l : ℕ) → p ≤ l → named_from kind p ≤ l
 named_in kind p l h = cases (eqb kind (kind_number array)) (λ t. rw t (omega arith)) (λ t. rw t h)
 
 -- where a name stands
@@ -123,7 +123,7 @@ name-bounds x {p} {from} {to} {end} n h =
     record { later = omega (arith, n.begins, n.stops, n.ends); from_in = h₁; to_in = h₂; within = h₃ }
 
 pub headed : (x : Text) {p from to end : ℕ} → NamedAt x p from to end → p ≤ length x → (kind from' to' : ℕ) → kind ≡ opener_kind (eqb from to) (get_or x end 0)
-    → from' ≡ named-from kind from → to' ≡ named-from kind to → Headed x p kind from' to' end
+    → from' ≡ named_from kind from → to' ≡ named_from kind to → Headed x p kind from' to' end
 headed x {p} {from} {to} {end} n h kind from' to' e ef et =
     let b : Bounds x p from to end = name-bounds x n h in
     record {

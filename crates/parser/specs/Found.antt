@@ -21,7 +21,7 @@ told a = record { refusal = a.refusal; name = a.name; kind = a.kind; place = a.p
 pub record Tree-found (x : Text) (w w' : Words) (r : Read) : Type 0 where
   pub found : Tree
   pub finds : find_tree string_set node_words x ≡ tree found r.end.0
-  pub rows-put : w' ≡ sets w 0 (rows found)
+  pub rows_put : w' ≡ sets w 0 (rows found)
   pub sized : Sized found x 0 0 max_depth r
 
 pub record Fault-found (x : Text) (r p : ℕ) : Type 0 where

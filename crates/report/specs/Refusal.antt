@@ -5,7 +5,7 @@ use Rattle.cel_text.specs.Tree.{object}
 use Rattle.cel_text.specs.Reading.{syntax, too_many}
 use Rattle.cel_text.specs.Table.{Words, kind_number}
 use Rattle.cel_text.specs.Answer.{Answer, fault_number}
-use Rattle.cel_policy.specs.Names.{spelling, response-certification, Certification, RequestCertification}
+use Rattle.cel_policy.specs.Names.{spelling, response_certification, Certification, RequestCertification}
 use Rattle.page.specs.Page.{said}
 use Rattle.report.specs.Words.{message, found_text, expected_text}
 use Rattle.report.specs.Window.{byte_place_text, node_place_text}
@@ -44,7 +44,7 @@ no_argument_text name = said (bytes "default_certification has no argument.\n") 
 
 -- the object that must have this property
 abbrev pub owner : (name : ℕ) → ℕ
-owner name = cond (eqb name response-certification) Certification RequestCertification
+owner name = cond (eqb name response_certification) Certification RequestCertification
 
 unfoldable pub no_property_text : (name : ℕ) → Text
 no_property_text name = spelling (owner name) ⧺ said (bytes " lacks the property ") 0 ⧺ spelling name ⧺ said (bytes ".\n") 0

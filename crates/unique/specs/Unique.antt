@@ -8,7 +8,7 @@ use denote.Triple.Clauses.{Lasts, at_exit}
 use borrow.Fn.Kinds.{ParamKind, ResultKind, In, Out, Dens, res_t, ended_of}
 use Rattle.cel_text.specs.Byte.{string_byte}
 use Rattle.cel_text.specs.Table.{row_at}
-use Rattle.cel_text.specs.Answer.{refused_at, tree_answer, tree_table, tree_over}
+use Rattle.cel_text.specs.Answer.{refused_at, tree_answer, tree_table, tree-over}
 use Rattle.cel_policy.specs.Names.{spelling}
 use Rattle.cel_policy.specs.Policy.{numbers}
 use Rattle.cel_policy.specs.Answers.{policy_answer, policy_nodes, policy_spans, policy_nodes_over, policy_spans_over, any_byte, judgement, print_answer, print_output, canonical_answer}
@@ -115,7 +115,7 @@ read-tree =
 -- `parser::read_over`
 pub tree-over :
     Kept tree_reads.Kinds.ps tree_reads.Kinds.r tree_reads.Reads.Asked tree_reads.Reads.Post (λ κs a r v.
-    (told r ≡ tree_answer (length a.1.0.now) a.0.now) × (v.1.0 ≡ tree_over a.0.now a.1.0.now))
+    (told r ≡ tree_answer (length a.1.0.now) a.0.now) × (v.1.0 ≡ tree-over a.0.now a.1.0.now))
 tree-over =
     record {
       one = λ κs a r s v w e f. (tree-says r s (meet e.0 f.0), λ i. (tt, (meet e.1 f.1 i, tt)));

@@ -13,8 +13,8 @@ use Rattle.cel_text.specs.Tree.{Kind, array, object, function, Tree, string, con
 use Rattle.cel_text.specs.Table.{kind_number}
 use Rattle.cel_text.specs.Reading.{max_nodes}
 use Rattle.cel_text.specs.Laws.Class.{by-test, both_true}
-use Rattle.cel_policy.specs.Names.{same, spelling, no-certification, certification, no-request-certification, request-certification, certified-request-headers, certified-query-parameters}
-use Rattle.cel_policy.specs.Names.{response-certification, certified-response-headers, response-header-exclusions, headers}
+use Rattle.cel_policy.specs.Names.{same, spelling, no_certification, certification, no_request_certification, request_certification, certified_request_headers, certified_query_parameters}
+use Rattle.cel_policy.specs.Names.{response_certification, certified_response_headers, response_header_exclusions, headers}
 use Rattle.cel_policy.specs.Policy.{Policy}
 use Rattle.cel_policy.specs.Mapping.{Node, leaf, branch, Nodes, childless, ◌▹◌∶◌, node_of, nodes_of, Mapped, good, bad, and_then, Typed, Request, Only, first, second, exactly_one, typed, lookup}
 use Rattle.cel_policy.specs.Mapping.{present, element, elements, string_array, first_of, first_child, headers_of, list_of, response_lists, response_part, list_at, request_lists, request_of}
@@ -201,19 +201,19 @@ module _ {A : Type 0} where
   unfolding response_lists
   meets-response_lists o =
       let ns : Nodes A = o.children in
-      meets-then _ (list_of certified-response-headers (lookup certified-response-headers ns)) _
-      (meets-list_of certified-response-headers (lookup certified-response-headers ns)) (λ included h.
-      meets-then _ (list_of response-header-exclusions (lookup response-header-exclusions ns)) _
-      (meets-list_of response-header-exclusions (lookup response-header-exclusions ns)) (λ excluded k.
+      meets-then _ (list_of certified_response_headers (lookup certified_response_headers ns)) _
+      (meets-list_of certified_response_headers (lookup certified_response_headers ns)) (λ included h.
+      meets-then _ (list_of response_header_exclusions (lookup response_header_exclusions ns)) _
+      (meets-list_of response_header_exclusions (lookup response_header_exclusions ns)) (λ excluded k.
       meets-exactly_one _ 15 16 o.number included excluded (between tt tt) (between tt tt)
-      (λ l e. omega (arith, rw e at h, lookup-size certified-response-headers ns))
-      (λ l e. omega (arith, rw e at k, lookup-size response-header-exclusions ns))))
+      (λ l e. omega (arith, rw e at h, lookup-size certified_response_headers ns))
+      (λ l e. omega (arith, rw e at k, lookup-size response_header_exclusions ns))))
 
-  meets-response_part : (o : Typed A) → Meets (λ (w : Only (List A)). 3 + length (listed w) ≤ size_if (lookup response-certification o.children)) (response_part o)
+  meets-response_part : (o : Typed A) → Meets (λ (w : Only (List A)). 3 + length (listed w) ≤ size_if (lookup response_certification o.children)) (response_part o)
   unfolding response_part
   meets-response_part o =
-      let found : Option (Node A) = lookup response-certification o.children in
-      meets-then _ (present response-certification o.number found) _ (meets-present response-certification o.number found) (λ n h.
+      let found : Option (Node A) = lookup response_certification o.children in
+      meets-then _ (present response_certification o.number found) _ (meets-present response_certification o.number found) (λ n h.
       meets-then _ (typed object _ n) _ (meets-typed object _ n) (λ u k.
       meets-weaken (response_lists u) (meets-response_lists u) (λ w j. omega arith)))
 
@@ -226,9 +226,9 @@ module _ {A : Type 0} where
   meets-request_lists : (o : Typed A) → Meets (λ (r : Option (Request A)). request_needs r ≤ suc (sizes o.children)) (request_lists o)
   unfolding request_lists Apart spelling
   meets-request_lists o =
-      meets-then _ (list_at certified-request-headers o) _ (meets-list_at certified-request-headers o) (λ hs h.
-      meets-then _ (list_at certified-query-parameters o) _ (meets-list_at certified-query-parameters o) (λ qs k.
-      omega (arith, different certified-request-headers certified-query-parameters response-certification refl refl refl o.children)))
+      meets-then _ (list_at certified_request_headers o) _ (meets-list_at certified_request_headers o) (λ hs h.
+      meets-then _ (list_at certified_query_parameters o) _ (meets-list_at certified_query_parameters o) (λ qs k.
+      omega (arith, different certified_request_headers certified_query_parameters response_certification refl refl refl o.children)))
 
   meets-request_of : (u : Only (Node A)) → Meets (λ (r : Option (Request A)). request_needs r ≤ size (the_one u)) (request_of u)
   unfolding request_of
@@ -238,11 +238,11 @@ module _ {A : Type 0} where
 
   meets-request_part :
       (o : Typed A)
-      → Meets (λ (r : Option (Request A)). request_needs r ≤ size_if (lookup no-request-certification o.children) + size_if (lookup request-certification o.children)) (request_part o)
+      → Meets (λ (r : Option (Request A)). request_needs r ≤ size_if (lookup no_request_certification o.children) + size_if (lookup request_certification o.children)) (request_part o)
   unfolding request_part
   meets-request_part o =
-      let a : Option (Node A) = lookup no-request-certification o.children in
-      let b : Option (Node A) = lookup request-certification o.children in
+      let a : Option (Node A) = lookup no_request_certification o.children in
+      let b : Option (Node A) = lookup request_certification o.children in
       meets-then {P = λ (u : Only (Node A)). size (the_one u) ≤ size_if a + size_if b} _ (exactly_one 13 14 o.number a b) _
       (meets-exactly_one _ 13 14 o.number a b (between tt tt) (between tt tt) (λ n e. rw e (omega arith)) (λ n e. rw e (omega arith)))
       (λ u h. meets-weaken (request_of u) (meets-request_of u) (λ r k. omega arith))
@@ -257,7 +257,7 @@ module _ {A : Type 0} where
   meets-certification_parts o =
       meets-then _ (request_part o) _ (meets-request_part o) (λ r h.
       meets-then _ (response_part o) _ (meets-response_part o) (λ l k within.
-      shape-within r l (omega (arith, different no-request-certification request-certification response-certification refl refl refl o.children))))
+      shape-within r l (omega (arith, different no_request_certification request_certification response_certification refl refl refl o.children))))
 
   meets-certification_of : (u : Only (Node A)) → Meets (λ (p : Policy A). 2 + size (the_one u) ≤ max_nodes → Shape p) (certification_of u)
   unfolding certification_of
@@ -270,9 +270,9 @@ module _ {A : Type 0} where
   unfolding validation_args
   meets-validation_args o =
       let ns : Nodes A = o.children in
-      meets-then {P = λ (u : Only (Node A)). size (the_one u) ≤ sizes ns} _ (exactly_one 11 12 o.number (lookup no-certification ns) (lookup certification ns)) _
-      (meets-exactly_one _ 11 12 o.number (lookup no-certification ns) (lookup certification ns) (between tt tt) (between tt tt)
-      (λ n e. rw e at (lookup-size no-certification ns)) (λ n e. rw e at (lookup-size certification ns)))
+      meets-then {P = λ (u : Only (Node A)). size (the_one u) ≤ sizes ns} _ (exactly_one 11 12 o.number (lookup no_certification ns) (lookup certification ns)) _
+      (meets-exactly_one _ 11 12 o.number (lookup no_certification ns) (lookup certification ns) (between tt tt) (between tt tt)
+      (λ n e. rw e at (lookup-size no_certification ns)) (λ n e. rw e at (lookup-size certification ns)))
       (λ u h. meets-weaken (certification_of u) (meets-certification_of u) (λ p k within. k (omega arith)))
 
   pub meets-mapping : (root : Node A) → Meets (λ (p : Policy A). size root ≤ max_nodes → Shape p) (mapping root)

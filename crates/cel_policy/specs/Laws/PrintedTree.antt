@@ -8,9 +8,9 @@ use Rattle.std.proofs.Math.Option.{Option, none, some}
 use Rattle.cel_text.specs.Byte.{Text, Run, Identifier, ident_byte, alphanumeric, quote, comma, bytes}
 use Rattle.cel_text.specs.Tree.{array, object, function}
 use Rattle.cel_text.specs.Abstract.{Ast, str, con, Asts, ε, ◌▪◌∶◌, write, write_all, size_of, size_all, height_of, height_all, Writable, WritableAll}
-use Rattle.cel_policy.specs.Names.{spellings, spelling, default-certification, ValidationArgs, no-certification, certification, Certification, no-request-certification, request-certification}
-use Rattle.cel_policy.specs.Names.{RequestCertification, certified-request-headers, certified-query-parameters, response-certification, ResponseCertification, certified-response-headers}
-use Rattle.cel_policy.specs.Names.{response-header-exclusions, ResponseHeaderList, headers}
+use Rattle.cel_policy.specs.Names.{spellings, spelling, default_certification, ValidationArgs, no_certification, certification, Certification, no_request_certification, request_certification}
+use Rattle.cel_policy.specs.Names.{RequestCertification, certified_request_headers, certified_query_parameters, response_certification, ResponseCertification, certified_response_headers}
+use Rattle.cel_policy.specs.Names.{response_header_exclusions, ResponseHeaderList, headers}
 use Rattle.cel_policy.specs.Policy.{all_strings}
 use Rattle.cel_policy.specs.Mapping.{good, Request, Only, first, second, list_kind, listed, certified, skipped, typed, lookup, present, element, elements, string_array, first_of, first_child}
 use Rattle.cel_policy.specs.Mapping.{headers_of, list_of, response_lists, response_part, list_at, request_lists, request_of, request_part, certification_parts, certification_of, validation_args}
@@ -39,8 +39,8 @@ empty_object = con object (bytes "Empty") ε
 
 -- the key of a response list
 abbrev pub key_of : Only (List Text) → ℕ
-key_of (first l) = certified-response-headers
-key_of (second l) = response-header-exclusions
+key_of (first l) = certified_response_headers
+key_of (second l) = response_header_exclusions
 
 abbrev pub response_value : Only (List Text) → Ast
 response_value l =
@@ -49,21 +49,21 @@ response_value l =
 abbrev pub request_value : Request Text → Ast
 request_value r =
     object_of RequestCertification
-    (ε ▪ spelling certified-request-headers ∶ array_of r.request_headers ▪ spelling certified-query-parameters ∶ array_of r.query_parameters)
+    (ε ▪ spelling certified_request_headers ∶ array_of r.request_headers ▪ spelling certified_query_parameters ∶ array_of r.query_parameters)
 
 abbrev pub root_of : (name : ℕ) → Ast → Ast
-root_of name a = con function (spelling default-certification) (ε ▪ [] ∶ object_of ValidationArgs (ε ▪ spelling name ∶ a))
+root_of name a = con function (spelling default_certification) (ε ▪ [] ∶ object_of ValidationArgs (ε ▪ spelling name ∶ a))
 
 abbrev pub skip_value : Ast
-skip_value = root_of no-certification empty_object
+skip_value = root_of no_certification empty_object
 
 -- the entry of the request part; where there is none, v stands for it, which the mapping does not look at
 abbrev pub request_entry : Ast → Option (Request Text) → Asts
-request_entry v none = ε ▪ spelling no-request-certification ∶ v
-request_entry v (some r) = ε ▪ spelling request-certification ∶ request_value r
+request_entry v none = ε ▪ spelling no_request_certification ∶ v
+request_entry v (some r) = ε ▪ spelling request_certification ∶ request_value r
 
 abbrev pub certified_value : Ast → Option (Request Text) → Only (List Text) → Ast
-certified_value v r l = root_of certification (object_of Certification (request_entry v r ▪ spelling response-certification ∶ response_value l))
+certified_value v r l = root_of certification (object_of Certification (request_entry v r ▪ spelling response_certification ∶ response_value l))
 
 -- ---- their text
 
@@ -168,14 +168,14 @@ module _ (S : ℕ → Bool) where
   writable-array ss e = (refl, writable-items ε ss tt e)
 
   writable-root : (name : ℕ) (a : Ast) → Writable S a → Writable S (root_of name a)
-  writable-root name a w = (spelt default-certification, (tt, refl, (spelt ValidationArgs, (tt, spelt name, w))))
+  writable-root name a w = (spelt default_certification, (tt, refl, (spelt ValidationArgs, (tt, spelt name, w))))
 
   pub writable-empty : Writable S empty_object
   unfolding ident_byte alphanumeric
   writable-empty = (run-of ident_byte (bytes "Empty") tt, tt)
 
   pub writable-skip : Writable S skip_value
-  writable-skip = writable-root no-certification empty_object writable-empty
+  writable-skip = writable-root no_certification empty_object writable-empty
 
   writable-response : (l : Only (List Text)) → Each (Run S) (listed l) → Writable S (response_value l)
   writable-response l e =
@@ -184,18 +184,18 @@ module _ (S : ℕ → Bool) where
   writable-request :
       (v : Ast) (r : Option (Request Text)) (l : Only (List Text))
       → Writable S v → Each (Run S) (all_strings (certified r l)) → WritableAll S (request_entry v r) object × Each (Run S) (listed l)
-  writable-request v none l w e = ((tt, spelt no-request-certification, w), e)
+  writable-request v none l w e = ((tt, spelt no_request_certification, w), e)
   writable-request v (some r) l w e =
       let a = each-split r.request_headers (r.query_parameters ++ listed l) e in
       let b = each-split r.query_parameters (listed l) a.1 in (
         (
           tt,
-          spelt request-certification,
+          spelt request_certification,
           (
             spelt RequestCertification,
             (
-              (tt, spelt certified-request-headers, writable-array r.request_headers a.0),
-              spelt certified-query-parameters,
+              (tt, spelt certified_request_headers, writable-array r.request_headers a.0),
+              spelt certified_query_parameters,
               writable-array r.query_parameters b.0,
             ),
           ),
@@ -208,5 +208,5 @@ module _ (S : ℕ → Bool) where
       → Writable S v → Each (Run S) (all_strings (certified r l)) → Writable S (certified_value v r l)
   writable-certified v r l w e =
       let h = writable-request v r l w e in
-      writable-root certification (object_of Certification (request_entry v r ▪ spelling response-certification ∶ response_value l))
-      (spelt Certification, (h.0, spelt response-certification, writable-response l h.1))
+      writable-root certification (object_of Certification (request_entry v r ▪ spelling response_certification ∶ response_value l))
+      (spelt Certification, (h.0, spelt response_certification, writable-response l h.1))

@@ -6,7 +6,7 @@ use Rattle.std.proofs.lemmas.List.{length-map}
 use Rattle.std.proofs.Math.Seq.{slice}
 use Rattle.cel_text.specs.Byte.{Text, ◌⧺◌, Run, Blanks, quote}
 use Rattle.cel_text.specs.Tree.{Kind, opener, closer, Key, Tree, string, container, Trees, ◌▸◌∶◌, nodes_all}
-use Rattle.cel_text.specs.Grammar.{Value, a-string, a-container, no-child, one_more}
+use Rattle.cel_text.specs.Grammar.{Value, a_string, a_container, no_child, one_more}
 use Rattle.cel_text.specs.Reading.{accepted, read, limits}
 use Rattle.cel_text.specs.Laws.Sound.{sound, within}
 use Rattle.cel_policy.specs.Policy.{Span, Policy, all_strings, over_strings, content, strings}
@@ -71,9 +71,9 @@ module _ (S : ℕ → Bool) (x : Text) where
   fit-value : {p : ℕ} {v : Text} {t : Tree} → Value S p v t → FitValue p v t
   fit-value d =
       elim d as (λ p v t d. FitValue p v t) (λ c p vs ts d. FitChildren p vs ts) [
-        | a-string {p = p} bs is cs ↦ fit-string p bs is cs
-        | a-container {p = p} {c = c} {h = h} {v = v} {b = b} {from = from} {to = to} {ts = ts} hd (ch → ih) bs ↦ fit-container p c h v b from to ts ih
-        | no-child ↦ (λ here n. (childless, refl))
+        | a_string {p = p} bs is cs ↦ fit-string p bs is cs
+        | a_container {p = p} {c = c} {h = h} {v = v} {b = b} {from = from} {to = to} {ts = ts} hd (ch → ih) bs ↦ fit-container p c h v b from to ts ih
+        | no_child ↦ (λ here n. (childless, refl))
         | one_more {p = p} {vs = vs} {s = s} {l = l} {v = v} {ts = ts} {k = k} {t = t} (ch → h) sep lab (val → ih) ↦ fit-more p vs s l v ts k t h ih
       ]
 

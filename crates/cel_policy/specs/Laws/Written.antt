@@ -6,8 +6,8 @@ use Rattle.std.proofs.Math.Seq.{slice}
 use Rattle.cel_text.specs.Byte.{Text, over, Identifier, quote, colon}
 use Rattle.cel_text.specs.Tree.{Kind, array, object, function, opener, closer, Key, unkeyed, key, Tree, string, container, Trees, ∅, ◌▸◌∶◌, nodes, nodes_all, depth, depth_all, count}
 use Rattle.cel_text.specs.Abstract.{Ast, str, con, Asts, ε, ◌▪◌∶◌, label, separator, write, write_all, size_of, size_all, height_of, height_all, count_of, GoodName, GoodKey, Writable, WritableAll}
-use Rattle.cel_text.specs.Grammar.{Named, nameless, with-name, Head, array_head, object-head, function-head, Label, in_array, in-function, in-object, Separator, next, Value, a-string, a-container}
-use Rattle.cel_text.specs.Grammar.{Children, no-child, one_more}
+use Rattle.cel_text.specs.Grammar.{Named, nameless, with_name, Head, array_head, object_head, function_head, Label, in_array, in_function, in_object, Separator, next, Value, a_string, a_container}
+use Rattle.cel_text.specs.Grammar.{Children, no_child, one_more}
 use Rattle.cel_policy.specs.Policy.{content}
 use Rattle.cel_policy.specs.Mapping.{Node, leaf, branch, Nodes, childless, ◌▹◌∶◌, key_bytes, node_of, nodes_of}
 use Rattle.cel_policy.specs.Laws.Natural.{over_node, over_nodes}
@@ -79,18 +79,18 @@ count-trees_at (more ▪ k ∶ a) c p = ap suc (count-trees_at more c p)
 named : (p : ℕ) (name : Text) → Identifier name → Named p name p (p + length name)
 named p [] r = let d : Named p [] (p + 0) (p + 0) = nameless over in simp add-zero (simp add-zero at d)
 named p (i ∷ more) r =
-    let d : Named p ((i ∷ more) ++ []) (p + 0) (p + 0 + length (i ∷ more)) = with-name over r over in
+    let d : Named p ((i ∷ more) ++ []) (p + 0) (p + 0 + length (i ∷ more)) = with_name over r over in
     simp (add-zero, append-nil) at d
 
 head_at : (c : Kind) (p : ℕ) (name : Text) → GoodName c name → Head c p name (name_from c p) (name_to c p name)
 head_at array p name g = rw g (array_head over)
-head_at object p name g = object-head (named p name g)
-head_at function p name g = function-head (named p name g)
+head_at object p name g = object_head (named p name g)
+head_at function p name g = function_head (named p name g)
 
 label_at : (c : Kind) (p : ℕ) (k : Text) → GoodKey c k → Label c p (label c k) (key_at c p k)
 label_at array p k g = in_array
-label_at object p k g = in-object (named p k g)
-label_at function p k g = in-function
+label_at object p k g = in_object (named p k g)
+label_at function p k g = in_function
 
 separator_at : (more : Asts) (c : Kind) (p : ℕ) → Separator (trees_at more c p) (separator more)
 separator_at ε c p = Separator.first
@@ -101,17 +101,17 @@ module _ (S : ℕ → Bool) where
     -- what is written is a value of the grammar
     pub value_written : (a : Ast) (p : ℕ) → Writable S a → Value S p (write a) (tree_at a p)
     value_written (str i) p w =
-        let d : Value S p (write (str i)) (string (p + 0) (suc (p + 0) + length i) (suc (suc (p + 0) + length i + 0))) = a-string over w over in
+        let d : Value S p (write (str i)) (string (p + 0) (suc (p + 0) + length i) (suc (suc (p + 0) + length i + 0))) = a_string over w over in
         simp add-zero at d
     value_written (con c name more) p w =
         let d : Value S p (write (con c name more))
         (container c (p + length name) (name_from c p) (name_to c p name) (suc (suc (p + length name) + length (write_all more c) + 0))
         (trees_at more c (suc (p + length name))))
-        = a-container (head_at c p name w.0) (children-written more c (suc (p + length name)) w.1) over in
+        = a_container (head_at c p name w.0) (children-written more c (suc (p + length name)) w.1) over in
         simp add-zero at d
 
     children-written : (more : Asts) (c : Kind) (p : ℕ) → WritableAll S more c → Children S c p (write_all more c) (trees_at more c p)
-    children-written ε c p w = no-child
+    children-written ε c p w = no_child
     children-written (more ▪ k ∶ a) c p w =
         one_more (children-written more c p w.0) (separator_at more c p)
         (label_at c (p + length (write_all more c) + length (separator more)) k w.1)

@@ -9,8 +9,8 @@ use Rattle.std.proofs.Math.Seq.{take-append_seam}
 use native.Mathlib.Omega.{arith}
 use Rattle.cel_text.specs.Byte.{Text, ◌⧺◌, blank, ident_byte, Run, over, byte, Blanks, quote, comma, colon, Plain}
 use Rattle.cel_text.specs.Tree.{Kind, array, object, function, opener, closer, Key, unkeyed, key, Tree, string, container, Trees, ∅, ◌▸◌∶◌, nodes, nodes_all, depth}
-use Rattle.cel_text.specs.Grammar.{Named, nameless, with-name, Head, array_head, object-head, function-head, Label, in_array, in-function, in-object, Separator, first, next, Value, a-string}
-use Rattle.cel_text.specs.Grammar.{a-container, no-child, one_more}
+use Rattle.cel_text.specs.Grammar.{Named, nameless, with_name, Head, array_head, object_head, function_head, Label, in_array, in_function, in_object, Separator, first, next, Value, a_string}
+use Rattle.cel_text.specs.Grammar.{a_container, no_child, one_more}
 use Rattle.cel_text.specs.Reading.{Limits, Stack, root, inside, level, opened, Frame, Due, value, entry, State, before, quoted, dropping, begun, after, Step, go, step, start, past, bare}
 use Rattle.cel_text.specs.Reading.{unquote, enter, enter_string, whole, child, closed, fresh, with_key, accepted, follow, run, read, limits, unlimited, max_depth, max_nodes}
 use Rattle.cel_text.specs.Laws.Class.{is_true, is_false, blank-ident, closer-blank, closer-comma, closer-closer}
@@ -38,25 +38,25 @@ ident-closer b t c = is_false (eqb b (closer c)) (λ e. no c (subst (λ (x : ℕ
 
 named-starts : {p : ℕ} {l : Text} {from to : ℕ} → Named p l from to → (y : ℕ) (r : Text) → blank y ≡ false → ((c : Kind) → eqb y (closer c) ≡ false) → Starts (l ++ y ∷ r)
 named-starts (nameless {b = b} bs) y r nb nc = record { blanks = b; head = y; tail = r; split = refl; are_blanks = bs; no_blank = nb; no_closer = nc }
-named-starts (with-name {b = b} {c = c} bs (byte {b = i} {bs = is} t ts) cs) y r nb nc =
+named-starts (with_name {b = b} {c = c} bs (byte {b = i} {bs = is} t ts) cs) y r nb nc =
     record { blanks = b; head = i; tail = is ++ (c ++ y ∷ r); split = simp append_assoc; are_blanks = bs; no_blank = blank-ident i t; no_closer = ident-closer i t }
 
 open-starts : (c : Kind) {p : ℕ} {h : Text} {from to : ℕ} → Head c p h from to → (r : Text) → Starts (h ++ opener c ∷ r)
 open-starts array (array_head bs) r = named-starts {p = 0} (nameless bs) (opener array) r (unfold blank in refl) (λ c. elim c [ array ↦ refl | object ↦ refl | function ↦ refl ])
-open-starts object (object-head n) r = named-starts n (opener object) r (unfold blank in refl) (λ c. elim c [ array ↦ refl | object ↦ refl | function ↦ refl ])
-open-starts function (function-head n) r = named-starts n (opener function) r (unfold blank in refl) (λ c. elim c [ array ↦ refl | object ↦ refl | function ↦ refl ])
+open-starts object (object_head n) r = named-starts n (opener object) r (unfold blank in refl) (λ c. elim c [ array ↦ refl | object ↦ refl | function ↦ refl ])
+open-starts function (function_head n) r = named-starts n (opener function) r (unfold blank in refl) (λ c. elim c [ array ↦ refl | object ↦ refl | function ↦ refl ])
 
 value-starts : (S : ℕ → Bool) {p : ℕ} {v : Text} {t : Tree} → Value S p v t → (r : Text) → Starts (v ++ r)
-value-starts S (a-string {b = b} {i = i} {c = c} bs is cs) r =
+value-starts S (a_string {b = b} {i = i} {c = c} bs is cs) r =
     subst Starts (simp append_assoc)
     (named-starts {p = 0} (nameless bs) quote (i ++ (c ++ quote ∷ r)) (unfold blank in refl) (λ c. elim c [ array ↦ refl | object ↦ refl | function ↦ refl ]))
-value-starts S (a-container {c = c} {h = h} {v = v} {b = b} hd ch bs) r =
+value-starts S (a_container {c = c} {h = h} {v = v} {b = b} hd ch bs) r =
     subst Starts (simp append_assoc) (open-starts c hd (v ++ (b ++ closer c ∷ r)))
 
 label-starts : {c : Kind} {p : ℕ} {l : Text} {k : Key} → Label c p l k → (r : Text) → Starts r → Starts (l ++ r)
 label-starts in_array r s = s
-label-starts in-function r s = s
-label-starts (in-object {l = l} n) r s =
+label-starts in_function r s = s
+label-starts (in_object {l = l} n) r s =
     subst Starts (simp append_assoc) (named-starts n colon r (unfold blank in refl) (λ c. elim c [ array ↦ refl | object ↦ refl | function ↦ refl ]))
 
 -- a frame with its children, before a key is read
@@ -75,8 +75,8 @@ module _ (S : ℕ → Bool) (L : Limits) where
   opens : (c : Kind) (K : Stack) {p : ℕ} {h : Text} {from to : ℕ} → Head c p h from to → (r : Text)
       → run S L (before (value K)) p (h ++ opener c ∷ r) ≡ follow (enter S L c K from to (p + length h)) (p + length h) (λ st. run S L st (suc (p + length h)) r)
   opens array K {p = p} (array_head {b = b} bs) r = before-blanks S L (value K) bs p (opener array ∷ r) ∙ (unfold step start blank ident_byte bare in refl)
-  opens object K (object-head n) r = after-name S L (value K) n (opener object) r (unfold blank in refl) (unfold ident_byte in refl) refl refl ∙ (unfold past in refl)
-  opens function K (function-head n) r = after-name S L (value K) n (opener function) r (unfold blank in refl) (unfold ident_byte in refl) refl refl ∙ (unfold past in refl)
+  opens object K (object_head n) r = after-name S L (value K) n (opener object) r (unfold blank in refl) (unfold ident_byte in refl) refl refl ∙ (unfold past in refl)
+  opens function K (function_head n) r = after-name S L (value K) n (opener function) r (unfold blank in refl) (unfold ident_byte in refl) refl refl ∙ (unfold past in refl)
 
   enters : (c : Kind) (K : Stack) (from to p : ℕ) → L.deep (suc (level K)) ≡ false → L.many (opened K) ≡ false → enter S L c K from to p ≡ go (begun K (fresh c p from to))
   unfolding enter
@@ -137,8 +137,8 @@ module _ (S : ℕ → Bool) (L : Limits) where
   labels : (K : Stack) (o from to : ℕ) (ts : Trees) {c : Kind} {q : ℕ} {l : Text} {k : Key} → Label c q l k → (r : Text)
       → run S L (before (child c K (holding c o from to ts))) q (l ++ r) ≡ run S L (before (value (inside K (with_key (holding c o from to ts) k)))) (q + length l) r
   labels K o from to ts in_array r = rw add-zero
-  labels K o from to ts in-function r = rw add-zero
-  labels K o from to ts {q = q} (in-object {l = l} {from = kf} {to = kt} n) r =
+  labels K o from to ts in_function r = rw add-zero
+  labels K o from to ts {q = q} (in_object {l = l} {from = kf} {to = kt} n) r =
       let f : Frame = holding object o from to ts in
       let w : State = before (value (inside K (with_key f (key kf kt)))) in
       let regroup : (l ⧺ colon ∷ []) ++ r ≡ l ++ colon ∷ r = simp append_assoc in
@@ -200,9 +200,9 @@ module _ (S : ℕ → Bool) (L : Limits) where
   pub reads-value : Plain S → {p : ℕ} {v : Text} {t : Tree} → Value S p v t → ReadsValue p v t
   reads-value P d =
       elim d as (λ p v t d. ReadsValue p v t) (λ c p vs ts d. ReadsChildren c p vs ts) [
-        | a-string {p = p} bs is cs ↦ reads-string P p bs is cs
-        | a-container {p = p} {c = c} {v = v} {ts = ts} hd (ch → h) bs ↦ reads-container p c v ts hd h bs
-        | no-child ↦ (λ K o from to rest a. rw add-zero)
+        | a_string {p = p} bs is cs ↦ reads-string P p bs is cs
+        | a_container {p = p} {c = c} {v = v} {ts = ts} hd (ch → h) bs ↦ reads-container p c v ts hd h bs
+        | no_child ↦ (λ K o from to rest a. rw add-zero)
         | one_more {c = c} {p = p} {vs = vs} (ch → h) sep lab (val → ih) ↦ reads_more c p vs h sep lab val ih
       ]
 

@@ -7,7 +7,7 @@ use mathlib.Core.List.{List, [], ◌∷◌, ◌++◌, append_assoc, append-nil}
 use Rattle.std.proofs.Math.Seq.{take-append_seam, take-append-add}
 use Rattle.cel_text.specs.Byte.{Text, blank, ident_byte, over, quote, colon, Plain}
 use Rattle.cel_text.specs.Tree.{function, opener, closer, unkeyed, key, Tree, string, ∅, ◌▸◌∶◌, Opening}
-use Rattle.cel_text.specs.Grammar.{a-string, Legal, Viable, Longest}
+use Rattle.cel_text.specs.Grammar.{a_string, Legal, Viable, Longest}
 use Rattle.cel_text.specs.Reading.{Limits, unlimited, Stack, root, inside, Frame, Due, value, entry, State, before, naming, named, quoted, dropping, begun, after, Fault, syntax, Step, go}
 use Rattle.cel_text.specs.Reading.{done, refuse, step, start, past, bare, unquote, enter, whole, closed, fresh, with_key, with_child, Outcome, accepted, refused, run, read}
 use Rattle.cel_text.specs.Laws.Run.{resume, whole-resumes}
@@ -107,7 +107,7 @@ module _ (S : ℕ → Bool) (P : Plain S) where
   finish-value K p o x e =
       let t : Tree = string (p + 0) (suc (p + 0) + 0) (suc (suc (p + 0) + 0 + 0)) in
       close K t (p + 2) o (x ++ quote ∷ quote ∷ [])
-      (rw append_assoc (e (quote ∷ quote ∷ closers K) ∙ reads-value S unlimited P (a-string over over over) K (closers K) refl))
+      (rw append_assoc (e (quote ∷ quote ∷ closers K) ∙ reads-value S unlimited P (a_string over over over) K (closers K) refl))
 
   finish-named : (w : Due) (from to p : ℕ) (st : State) → ((b : ℕ) → blank b ≡ false → ident_byte b ≡ false → step S unlimited st p b ≡ past S unlimited w from to p b) → Finish (run S unlimited st p)
   finish-named (value K) from to p st e =

@@ -8,7 +8,7 @@ use Rattle.std.proofs.Math.ListN.{length, length-append}
 use native.Mathlib.Omega.{arith}
 use Rattle.cel_text.specs.Byte.{Text, ◌⧺◌, blank, ident_byte, Run, over, byte, Blanks, quote}
 use Rattle.cel_text.specs.Tree.{Tree, opener, array}
-use Rattle.cel_text.specs.Grammar.{Named, nameless, with-name}
+use Rattle.cel_text.specs.Grammar.{Named, nameless, with_name}
 use Rattle.cel_text.specs.Reading.{Limits, Stack, root, inside, Frame, Due, value, entry, State, before, naming, named, quoted, dropping, begun, after, Step, go, done, refuse, step, start}
 use Rattle.cel_text.specs.Reading.{past, bare, unquote, whole, with_child, Outcome, accepted, ended, stopped, outcome, meet, follow, halt, run}
 use Rattle.cel_text.specs.Laws.Class.{is_true, ident-blank, blank-ident}
@@ -90,7 +90,7 @@ module _ (S : ℕ → Bool) (L : Limits) where
       bare-past : (w : Due) (q : ℕ) → run S L (before w) q (y ∷ r) ≡ past_name w q q q y r
       bare-past (value K) q = unfold step start bare in rw (nb, ni, na, nq)
       bare-past (entry K f) q = unfold step start bare in rw (nb, ni)
-  after-name w {p = p} (with-name {b = b} {c = c} bs (byte {b = i} {bs = is} t ts) cs) y r nb ni na nq =
+  after-name w {p = p} (with_name {b = b} {c = c} bs (byte {b = i} {bs = is} t ts) cs) y r nb ni na nq =
       let q : ℕ = p + length b in
       let first : step S L (before w) q i ≡ go (naming w q) = unfold step start in rw (blank-ident i t, is_true (ident_byte i) t) in
       let ends : suc q + length is ≡ q + suc (length is) = omega arith in

@@ -11,8 +11,8 @@ use Rattle.std.proofs.Math.Dec.{eqb}
 use borrow.Author.Tests.{eqb-true}
 use Rattle.cel_text.specs.Byte.{Text, ◌⧺◌, blank, ident_byte, Run, over, byte, Blanks, Identifier, quote, comma, colon}
 use Rattle.cel_text.specs.Tree.{Kind, array, object, function, opener, closer, Key, unkeyed, key, Tree, string, container, Trees, nodes, nodes_all, depth}
-use Rattle.cel_text.specs.Grammar.{Named, nameless, with-name, Head, array_head, object-head, function-head, Label, in_array, in-function, in-object, Separator, first, next, Value, a-string}
-use Rattle.cel_text.specs.Grammar.{a-container, Children, no-child, one_more}
+use Rattle.cel_text.specs.Grammar.{Named, nameless, with_name, Head, array_head, object_head, function_head, Label, in_array, in_function, in_object, Separator, first, next, Value, a_string}
+use Rattle.cel_text.specs.Grammar.{a_container, Children, no_child, one_more}
 use Rattle.cel_text.specs.Reading.{Limits, Stack, root, inside, level, opened, Frame, Due, value, entry, State, before, naming, named, quoted, dropping, begun, after, Step, go, done, refuse}
 use Rattle.cel_text.specs.Reading.{step, start, past, bare, unquote, enter, enter_string, whole, child, closed, with_key, accepted, read, limits, max_depth, max_nodes}
 use Rattle.cel_text.specs.Laws.Class.{by-test}
@@ -188,7 +188,7 @@ module _ (S : ℕ → Bool) where
       let q : suc (suc o + length h.kids + length b) ≡ suc p = sym (ap suc (ep ∙ ap (λ (n : ℕ). n + length b) (ap length h.split ∙ simp length-append (omega arith)))) in
       whole-good K (closed f (suc p)) h.outer h.ready
       (subst (Value S (length h.outer) (h.head ⧺ (opener f.kind ∷ h.kids) ⧺ b ⧺ closer f.kind ∷ []))
-      (λ i. container f.kind (sym h.opening i) f.from f.to (q i) f.children) (a-container h.is_head h.are_kids bs))
+      (λ i. container f.kind (sym h.opening i) f.from f.to (q i) f.children) (a_container h.is_head h.are_kids bs))
       x (rw (ex, h.split) (simp append_assoc))
 
   child-due : (K : Stack) (f : Frame) (y s x : Text) → Holds (Ready K) y f → Separator f.children s → f.next ≡ unkeyed → x ≡ y ⧺ s → (c : Kind) → f.kind ≡ c → DueAt (child c K f) x
@@ -209,7 +209,7 @@ module _ (S : ℕ → Bool) where
         label = [];
         holds = h;
         is_separator = sep;
-        is_label = subst₂ (λ (c : Kind) (k : Key). Label c (length y + length s) [] k) (sym ec) (sym nk) in-function;
+        is_label = subst₂ (λ (c : Kind) (k : Key). Label c (length y + length s) [] k) (sym ec) (sym nk) in_function;
         split = rw e (simp append-nil);
       }
   child-due K f y s x h sep nk e object ec = record { is_object = ec; held = y; separator = s; holds = h; is_separator = sep; split = e }
@@ -227,7 +227,7 @@ module _ (S : ℕ → Bool) where
           split = sym (append-nil x);
           holds =
               record {
-                holds = record { outer = y; head = h; kids = []; ready = r; is_head = hd; opening = ep; are_kids = no-child; split = ex };
+                holds = record { outer = y; head = h; kids = []; ready = r; is_head = hd; opening = ep; are_kids = no_child; split = ex };
                 separable = first;
                 no_key = refl;
               };
@@ -243,8 +243,8 @@ module _ (S : ℕ → Bool) where
         → Good (past S L w from to p b) x
     unfolding past
     past-good (value K) y {l = l} r n p b x ep ex =
-        by-test (λ u. Good u x) (eqb b (opener object)) _ _ (λ e. enter-good object K y r (object-head n) p x ep (at (opener object) e))
-        (λ e. by-test (λ u. Good u x) (eqb b (opener function)) _ _ (λ e'. enter-good function K y r (function-head n) p x ep (at (opener function) e')) (λ e'. tt))
+        by-test (λ u. Good u x) (eqb b (opener object)) _ _ (λ e. enter-good object K y r (object_head n) p x ep (at (opener object) e))
+        (λ e. by-test (λ u. Good u x) (eqb b (opener function)) _ _ (λ e'. enter-good function K y r (function_head n) p x ep (at (opener function) e')) (λ e'. tt))
       where
         at : (m : ℕ) → eqb b m ≡ true → x ≡ y ⧺ l ⧺ m ∷ []
         at m e = ex ∙ ap (λ (z : ℕ). y ⧺ l ⧺ z ∷ []) (eqb-true b m e)
@@ -262,7 +262,7 @@ module _ (S : ℕ → Bool) where
                 label = l ⧺ colon ∷ [];
                 holds = rekeyed (key from to) d.holds;
                 is_separator = d.is_separator;
-                is_label = subst₂ (λ (c : Kind) (m : ℕ). Label c m (l ⧺ colon ∷ []) (key from to)) (sym d.is_object) (ap length d.split ∙ length-append d.held d.separator) (in-object n);
+                is_label = subst₂ (λ (c : Kind) (m : ℕ). Label c m (l ⧺ colon ∷ []) (key from to)) (sym d.is_object) (ap length d.split ∙ length-append d.held d.separator) (in_object n);
                 split = rw (ex, d.split, eqb-true b colon e) (simp append_assoc);
               };
         }) (λ e. tt)
@@ -310,7 +310,7 @@ module _ (S : ℕ → Bool) where
         (λ e'.
         whole-good K (string o to (suc p)) q.front q.ready
         (subst (Value S (length q.front) (q.blanks ⧺ (quote ∷ q.content) ⧺ d.blanks ⧺ quote ∷ []))
-        (λ i. string (sym q.opening i) (ends i) (closes i)) (a-string q.are_blanks q.is_content d.are_blanks))
+        (λ i. string (sym q.opening i) (ends i) (closes i)) (a_string q.are_blanks q.is_content d.are_blanks))
         x (rw (ex, d.split, q.split, eqb-true b quote e') (simp append_assoc)))
         (λ e'. tt))
 
@@ -318,7 +318,7 @@ module _ (S : ℕ → Bool) where
     name_of : (w : Due) (from : ℕ) {z c : Text} (d : Naming w from z) → Blanks c → (to : ℕ) → to ≡ length z → Named (length d.front) (d.blanks ⧺ (d.i ∷ d.is) ⧺ c) from to
     name_of w from {c = c} d cs to e =
         subst₂ (Named (length d.front) (d.blanks ⧺ (d.i ∷ d.is) ⧺ c)) (sym d.begins) (sym (e ∙ ap length d.split ∙ simp length-append (omega arith)))
-        (with-name d.are_blanks d.is_name cs)
+        (with_name d.are_blanks d.is_name cs)
 
     -- each step keeps how the bytes are put together
     step-good : (st : State) (z : Text) (b : ℕ) → Partial st z → (x : Text) → x ≡ z ⧺ b ∷ [] → Good (step S L st (length z) b) x
