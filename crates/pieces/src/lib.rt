@@ -1,4 +1,6 @@
 // Pieces of output: each is written from a place of a lent buffer on, and the place after it is answered. What the programs print is made of these.
+#![tactic(auto)]
+
 ghost use Rattle.std.specs.Prelude.{◌+◌, ◌≤◌, ◌<◌, length};
 ghost use Rattle.pieces.specs.Pieces.{Wrote};
 
@@ -13,8 +15,9 @@ pub fn put(out: &mut [u8], at: usize, piece: &[u8]) -> usize
     if out.len() - at < piece.len() {
         return put_first(out, at, piece);
     }
-    bytes::copy(piece, &mut out[at..]);
-    at + piece.len()
+    let end = at + piece.len();
+    out[at..end].copy_from_slice(piece);
+    end
 }
 
 // The bytes of the piece for which there is room.
@@ -23,6 +26,6 @@ fn put_first(out: &mut [u8], at: usize, piece: &[u8]) -> usize
     ensures { Wrote out.old out.new at result piece.now }
 {
     let room = out.len() - at;
-    bytes::copy(&piece[..room], &mut out[at..]);
+    out[at..].copy_from_slice(&piece[..room]);
     at + room
 }

@@ -42,14 +42,14 @@ named-starts (with_name {b = b} {c = c} bs (byte {b = i} {bs = is} t ts) cs) y r
     record { blanks = b; head = i; tail = is ++ (c ++ y ∷ r); split = simp append_assoc; are_blanks = bs; no_blank = blank-ident i t; no_closer = ident-closer i t }
 
 open-starts : (c : Kind) {p : ℕ} {h : Text} {from to : ℕ} → Head c p h from to → (r : Text) → Starts (h ++ opener c ∷ r)
-open-starts array (array_head bs) r = named-starts {p = 0} (nameless bs) (opener array) r (unfold blank in refl) (λ c. elim c [ array ↦ refl | object ↦ refl | function ↦ refl ])
-open-starts object (object_head n) r = named-starts n (opener object) r (unfold blank in refl) (λ c. elim c [ array ↦ refl | object ↦ refl | function ↦ refl ])
-open-starts function (function_head n) r = named-starts n (opener function) r (unfold blank in refl) (λ c. elim c [ array ↦ refl | object ↦ refl | function ↦ refl ])
+open-starts array (array_head bs) r = named-starts {p = 0} (nameless bs) (opener array) r (unfold blank in refl) (λ c. elim c as (λ k. eqb (opener array) (closer k) ≡ false) [ array ↦ refl | object ↦ refl | function ↦ refl ])
+open-starts object (object_head n) r = named-starts n (opener object) r (unfold blank in refl) (λ c. elim c as (λ k. eqb (opener object) (closer k) ≡ false) [ array ↦ refl | object ↦ refl | function ↦ refl ])
+open-starts function (function_head n) r = named-starts n (opener function) r (unfold blank in refl) (λ c. elim c as (λ k. eqb (opener function) (closer k) ≡ false) [ array ↦ refl | object ↦ refl | function ↦ refl ])
 
 value-starts : (S : ℕ → Bool) {p : ℕ} {v : Text} {t : Tree} → Value S p v t → (r : Text) → Starts (v ++ r)
 value-starts S (a_string {b = b} {i = i} {c = c} bs is cs) r =
     subst Starts (simp append_assoc)
-    (named-starts {p = 0} (nameless bs) quote (i ++ (c ++ quote ∷ r)) (unfold blank in refl) (λ c. elim c [ array ↦ refl | object ↦ refl | function ↦ refl ]))
+    (named-starts {p = 0} (nameless bs) quote (i ++ (c ++ quote ∷ r)) (unfold blank in refl) (λ c. elim c as (λ k. eqb quote (closer k) ≡ false) [ array ↦ refl | object ↦ refl | function ↦ refl ]))
 value-starts S (a_container {c = c} {h = h} {v = v} {b = b} hd ch bs) r =
     subst Starts (simp append_assoc) (open-starts c hd (v ++ (b ++ closer c ∷ r)))
 
@@ -57,7 +57,7 @@ label-starts : {c : Kind} {p : ℕ} {l : Text} {k : Key} → Label c p l k → (
 label-starts in_array r s = s
 label-starts in_function r s = s
 label-starts (in_object {l = l} n) r s =
-    subst Starts (simp append_assoc) (named-starts n colon r (unfold blank in refl) (λ c. elim c [ array ↦ refl | object ↦ refl | function ↦ refl ]))
+    subst Starts (simp append_assoc) (named-starts n colon r (unfold blank in refl) (λ c. elim c as (λ k. eqb colon (closer k) ≡ false) [ array ↦ refl | object ↦ refl | function ↦ refl ]))
 
 -- a frame with its children, before a key is read
 abbrev pub holding : Kind → (o from to : ℕ) → Trees → Frame
