@@ -120,3 +120,7 @@ sets_first out at t l h =
     sym
     (ap (sets out at) (sym (take-append-drop n t)) ∙ sets-append (take n t) (drop n t) out at
     ∙ sets-out (drop n t) (sets out at (take n t)) (at + length (take n t)) (omega (arith, first, long)))
+
+-- t in the place of as many bytes from `at` on
+pub put_mid-sets : (out : List ℕ) (at k : ℕ) (t : List ℕ) → at + length t ≤ length out → k ≡ length t → put_mid at k out t ≡ sets out at t
+put_mid-sets out at k t h e = rw (e, sets-eq t out at h, drop-drop, append_assoc)

@@ -5,7 +5,7 @@ use Rattle.std.proofs.Math.Option.{Option, none, some}
 use Rattle.cel_text.specs.Byte.{Text, ascii, lead, string_byte}
 use Rattle.cel_text.specs.Tree.{Tree, nodes, depth}
 use Rattle.cel_text.specs.Table.{Words, node_words}
-use Rattle.cel_text.specs.Reading.{Fault, accepted, refused, read, limits, max_depth, max_nodes}
+use Rattle.cel_text.specs.Reading.{Fault, accepted, read, limits, max_depth, max_nodes}
 use Rattle.cel_text.specs.Answer.{max_text, fault_number, Found, tree, fault, find_tree, answered, tree_answer}
 use Rattle.cel_text.specs.Laws.Class.{by-test}
 use Rattle.cel_text.specs.Laws.Find.{FindsTree, too_short, too_long, not_ascii, broken, whole, finds, answer-within}

@@ -9,7 +9,7 @@ use Rattle.cel_text.specs.Byte.{Text, blank, ident_byte, over, quote, colon, Pla
 use Rattle.cel_text.specs.Tree.{function, opener, closer, unkeyed, key, Tree, string, ∅, ◌▸◌∶◌, Opening}
 use Rattle.cel_text.specs.Grammar.{a_string, Legal, Viable, Longest}
 use Rattle.cel_text.specs.Reading.{Limits, unlimited, Stack, root, inside, Frame, Due, value, entry, State, before, naming, named, quoted, dropping, begun, after, Fault, syntax, Step, go}
-use Rattle.cel_text.specs.Reading.{done, refuse, step, start, past, bare, unquote, enter, whole, closed, fresh, with_key, with_child, Outcome, accepted, refused, run, read}
+use Rattle.cel_text.specs.Reading.{done, refuse, step, start, past, bare, unquote, enter, closed, fresh, with_key, with_child, Outcome, accepted, refused, run, read}
 use Rattle.cel_text.specs.Laws.Run.{resume, whole-resumes}
 use Rattle.cel_text.specs.Laws.Complete.{reads-value, closes, complete-unlimited}
 use Rattle.cel_text.specs.Laws.Trace.{Trace, here, there, traced, Accepts, Refuses, Stops, Ends, ends}
