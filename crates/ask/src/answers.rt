@@ -17,7 +17,7 @@ const NODES_LENT: usize = NODE_WORDS + 5;
 const SPANS_LENT: usize = SPAN_WORDS + 5;
 
 // How much a request lends: the text's bytes, node words, span words and output bytes.
-#[derive(Drop)]
+#[derive(Clone, Copy)]
 pub(crate) struct Request {
     pub text: usize,
     pub nodes: usize,
@@ -25,7 +25,7 @@ pub(crate) struct Request {
     pub room: usize,
 }
 
-#[derive(Drop)]
+#[derive(Clone, Copy)]
 pub(crate) enum Asked {
     For(Request),
     Nothing,

@@ -1,5 +1,7 @@
 // Answers requests, one a line, for tests, for support and for the models: a verb, then its fields, each after a tab. `ask --help` says
 // which verbs there are and what their fields are.
+#![tactic(auto)]
+
 mod answers;
 mod entry;
 mod every;

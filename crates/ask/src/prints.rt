@@ -10,7 +10,7 @@ use cel_policy::Policy;
 use lines::{Count, Field};
 
 // What a request asks for: how many bytes its text has, the policy, how many words its span table has, and the output's room.
-#[derive(Drop)]
+#[derive(Clone, Copy)]
 pub(crate) struct Request {
     pub text: usize,
     pub policy: Policy,
@@ -18,14 +18,14 @@ pub(crate) struct Request {
     pub room: usize,
 }
 
-#[derive(Drop)]
+#[derive(Clone, Copy)]
 pub(crate) enum Asked {
     For(Request),
     Nothing,
 }
 
 // A policy, and where its last field ends.
-#[derive(Drop)]
+#[derive(Clone, Copy)]
 pub(crate) enum Given {
     Numbers(Policy, usize),
     Wrong,

@@ -6,7 +6,7 @@ ghost use Rattle.ask.specs.Table.{EndsWithin};
 use lines::{Count, Field};
 
 // A number, and where it ends.
-#[derive(Drop)]
+#[derive(Clone, Copy)]
 pub(crate) enum Word {
     Is(u32, usize),
     Wrong,

@@ -1,6 +1,8 @@
 // Reading a policy: the port of ast_mapping.rs. `read_policy` reads the tree of a text, maps it to a policy or a refusal, and leaves
 // the tree's rows and the policy's strings in two lent tables; `read_over` leaves the words after them as they are. Both contracts cite the
 // definitions of `cel_policy`, for every text and both lengths, and ask nothing of the caller.
+#![tactic(auto)]
+
 mod mapping;
 pub mod name;
 mod row;
@@ -18,7 +20,7 @@ use cel_policy::Policy;
 use parser::{ACCEPTED, Answer};
 
 // The answer of reading a policy: the tree's six numbers, and the policy's five.
-#[derive(Drop)]
+#[derive(Clone, Copy)]
 pub struct PolicyAnswer {
     pub answer: Answer,
     pub policy: Policy,

@@ -26,7 +26,7 @@ use parser::{
 };
 
 // A refusal of 7 to 16: its number, the expected name and kind, and the node.
-#[derive(Drop)]
+#[derive(Clone, Copy)]
 pub(crate) struct Refusal {
     pub refusal: u32,
     pub name: u32,
@@ -35,14 +35,14 @@ pub(crate) struct Refusal {
 }
 
 // Whether a node is what it should be.
-#[derive(Drop)]
+#[derive(Clone, Copy)]
 pub(crate) enum Check {
     Right,
     Refused(Refusal),
 }
 
 // Which of two nodes is there, where exactly one should be.
-#[derive(Drop)]
+#[derive(Clone, Copy)]
 pub(crate) enum Only {
     First(Node),
     Second(Node),
@@ -50,21 +50,21 @@ pub(crate) enum Only {
 }
 
 // A list of strings that has to be there.
-#[derive(Drop)]
+#[derive(Clone, Copy)]
 pub(crate) enum Listed {
     At(Node),
     Refused(Refusal),
 }
 
 // A list of strings that may be absent.
-#[derive(Drop)]
+#[derive(Clone, Copy)]
 pub(crate) enum Headers {
     Good(Found),
     Refused(Refusal),
 }
 
 // The request part: absent, or its two lists of strings.
-#[derive(Drop)]
+#[derive(Clone, Copy)]
 pub(crate) enum Request {
     Absent,
     Lists(Node, Node),
@@ -72,7 +72,7 @@ pub(crate) enum Request {
 }
 
 // What the mapping gives: a policy, by its list kind and its lists of strings, or a refusal.
-#[derive(Drop)]
+#[derive(Clone, Copy)]
 pub(crate) enum Mapped {
     Skip,
     ResponseOnly(u32, Node),

@@ -7,7 +7,7 @@ use parser::Node;
 use parser::row::read_row;
 
 // What a lookup finds.
-#[derive(Drop)]
+#[derive(Clone, Copy)]
 pub(crate) enum Found {
     At(Node),
     Nothing,

@@ -4,7 +4,7 @@
 #![tactic(auto)]
 
 // A policy as numbers: form, list kind, and how many strings each list has.
-#[derive(Drop)]
+#[derive(Clone, Copy)]
 pub struct Policy {
     pub form: u32,
     pub kind: u32,

@@ -1,5 +1,7 @@
 // Printing a policy: the port of create_cel_expr.rs. The policy is numbers from anyone, and so are the span table and the text; what is not
 // printable is refused, and the output left alone then. The contracts cite the definitions of `cel_policy` and ask nothing of the caller.
+#![tactic(auto)]
+
 mod judge;
 mod measure;
 mod span;
@@ -17,7 +19,7 @@ use cel_policy::Policy;
 use parser::MAX_TEXT;
 
 // The answer of printing: its five numbers.
-#[derive(Drop)]
+#[derive(Clone, Copy)]
 pub struct Printed {
     pub refusal: u32,
     pub name: u32,
@@ -27,7 +29,7 @@ pub struct Printed {
 }
 
 // What judging a policy finds: nothing, or the refusal's number and the string that it names.
-#[derive(Drop)]
+#[derive(Clone, Copy)]
 pub enum Judged {
     Clean,
     Faulty(u32, usize),

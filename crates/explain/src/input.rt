@@ -5,7 +5,7 @@ ghost use Rattle.cel_text.specs.Answer.{max_text};
 use parser::MAX_TEXT;
 
 // How many bytes are held, and whether a read failed.
-#[derive(Drop)]
+#[derive(Clone, Copy)]
 pub(crate) struct Held {
     pub bytes: usize,
     pub failed: bool,

@@ -1,5 +1,7 @@
 // Explains a text to a person: `explain` the one on standard input, `explain FILE` the one in a file. No more of it is read than
 // settles that it is too long.
+#![tactic(auto)]
+
 mod input;
 
 ghost use Rattle.std.specs.Prelude.{◌++◌};

@@ -1,10 +1,12 @@
 // Numbers in groups of seven bits, the lowest group first, in at most three bytes: a byte of 128 or more is a group that another follows.
 // Definitions in specs/Groups.antt, and what is true of them in specs/Laws.antt.
+#![tactic(auto)]
+
 ghost use Rattle.std.specs.Prelude.{◌≡◌, ◌<◌};
 ghost use Rattle.groups.specs.Groups.{number, ending};
 
 // A number, and how many bytes it takes; or groups that are cut short, not in their shortest form, or more than three.
-#[derive(Drop)]
+#[derive(Clone, Copy)]
 pub enum Number {
     Whole(usize, usize),
     Cut,

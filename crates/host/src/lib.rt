@@ -1,5 +1,7 @@
 // The host's entry: a text is read as a policy and the policy is printed, over tables of its own. One number answers: the printed
 // length, or 65,536 plus the refusal. Its contract cites the definitions of `cel_policy`, for every text and every output.
+#![tactic(auto)]
+
 ghost use Rattle.std.specs.Prelude.{◌≡◌, length};
 ghost use Rattle.cel_policy.specs.Answers.{canonical_answer, canonical_output};
 

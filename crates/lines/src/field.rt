@@ -3,14 +3,14 @@ ghost use Rattle.std.specs.Prelude.{◌≡◌, ◌≤◌, length};
 ghost use Rattle.lines.specs.Fields.{hex_value, hex_count, hex_left, read_decimal, AtMost, number_after, part_from, Within};
 
 // How many bytes a field gives, or the number that it is.
-#[derive(Drop)]
+#[derive(Clone, Copy)]
 pub enum Count {
     Number(usize),
     Bad,
 }
 
 // A number, and where its field ends.
-#[derive(Drop)]
+#[derive(Clone, Copy)]
 pub enum Field {
     Is(usize, usize),
     Wrong,

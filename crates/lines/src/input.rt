@@ -7,7 +7,7 @@ use libc::STDIN_FILENO;
 
 // A line of the input, from `from` up to `to`; how many bytes of the buffer are held; whether there was a line, and whether it was cut
 // because it fills the buffer.
-#[derive(Drop)]
+#[derive(Clone, Copy)]
 pub struct Line {
     pub from: usize,
     pub to: usize,

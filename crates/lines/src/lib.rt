@@ -1,4 +1,6 @@
 // Lines of standard input, the fields and parts of a line, and the numbers and bytes of an answer.
+#![tactic(auto)]
+
 mod field;
 mod input;
 mod write;

@@ -1,5 +1,7 @@
 // Reading a tree: the port of parser.rs. `read_tree` says what a text reads as, and leaves the tree's rows in a lent table.
 // Its contract cites the definitions of `cel_text`, for every text and every table, and asks nothing of the caller.
+#![tactic(auto)]
+
 pub mod row;
 pub mod scan;
 mod value;
@@ -11,15 +13,15 @@ ghost use Rattle.cel_text.specs.Answer.{max_text, refused_at, tree_answer, tree_
 ghost use Rattle.parser.specs.Found.{told, Finds, Small, answer_of, accepted_with, stale_from};
 
 // A place in the text: how many bytes stand before it.
-#[derive(Drop)]
+#[derive(Clone, Copy)]
 pub struct Place(pub usize);
 
 // A node's number.
-#[derive(Drop)]
+#[derive(Clone, Copy)]
 pub struct Node(pub usize);
 
 // What was read: where reading goes on, the number of the next node and the depth.
-#[derive(Drop)]
+#[derive(Clone, Copy)]
 pub(crate) struct Read {
     pub end: Place,
     pub next: Node,
@@ -27,14 +29,14 @@ pub(crate) struct Read {
 }
 
 // What a reading step answers: what it read, or the refusal's number and its place.
-#[derive(Drop)]
+#[derive(Clone, Copy)]
 pub(crate) enum Step {
     Next(Read),
     Refused(u32, Place),
 }
 
 // The answer of reading a tree: its six numbers.
-#[derive(Drop)]
+#[derive(Clone, Copy)]
 pub struct Answer {
     pub refusal: u32,
     pub name: u32,

@@ -8,11 +8,11 @@ ghost use Rattle.parser.specs.Rows.{row_told};
 use crate::{Node, Place, ROW_WORDS};
 
 // A parent's word: its number plus 1, 0 where there is none.
-#[derive(Drop)]
+#[derive(Clone, Copy)]
 pub struct Parent(pub u32);
 
 // A node's row, word by word.
-#[derive(Drop)]
+#[derive(Clone, Copy)]
 pub struct Row {
     pub kind: u32,
     pub from: Place,

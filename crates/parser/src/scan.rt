@@ -10,7 +10,7 @@ use crate::Place;
 const EIGHT_SPACES: u64 = 0x2020202020202020;
 
 // The classes of bytes that runs are made of.
-#[derive(Drop)]
+#[derive(Clone, Copy)]
 pub enum Class {
     Blank,
     Ident,
@@ -19,7 +19,7 @@ pub enum Class {
 }
 
 // A run of blanks, an identifier and a run of blanks: the identifier's ends and the place after them all.
-#[derive(Drop)]
+#[derive(Clone, Copy)]
 pub(crate) struct Name {
     pub from: Place,
     pub to: Place,

@@ -15,14 +15,14 @@ use crate::{
 };
 
 // What the limits answer to an opener: the place after it, or the refusal's number and its place.
-#[derive(Drop)]
+#[derive(Clone, Copy)]
 pub(crate) enum Pass {
     Past(Place),
     Stopped(u32, Place),
 }
 
 // A child's key, 0 and 0 where it has none, and the place where its value is due.
-#[derive(Drop)]
+#[derive(Clone, Copy)]
 pub(crate) struct Key {
     pub from: Place,
     pub to: Place,
@@ -30,14 +30,14 @@ pub(crate) struct Key {
 }
 
 // What reading a child's key answers: the key, or the refusal's number and its place.
-#[derive(Drop)]
+#[derive(Clone, Copy)]
 pub(crate) enum Labelled {
     As(Key),
     Unlabelled(u32, Place),
 }
 
 // What a value begins with: its kind, 0 where nothing opens; the ends of its name; its opener's place.
-#[derive(Drop)]
+#[derive(Clone, Copy)]
 pub(crate) struct Head {
     pub kind: u32,
     pub from: Place,

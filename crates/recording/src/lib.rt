@@ -1,5 +1,7 @@
 // Replaying a recording that arrives in pieces. `advance` answers the records that lie in the bytes held, and says how far it came, what it wrote
 // and why it stopped. It reads no input and writes no output: a program moves the bytes. Definitions in specs/, what is true of them in specs/Laws/.
+#![tactic(auto)]
+
 mod line;
 mod window;
 
@@ -16,7 +18,7 @@ ghost use Rattle.recording.specs.Steps.{Counts, is_full, turn_at, Answered, Step
 use window::Event;
 
 // How a recording ends: between two records, or in a fault.
-#[derive(Drop)]
+#[derive(Clone, Copy)]
 pub(crate) enum Ending {
     Complete,
     BrokenLength,
@@ -24,7 +26,7 @@ pub(crate) enum Ending {
 }
 
 // What a line says of a record: its answer, its form, its nodes and its depth.
-#[derive(Drop)]
+#[derive(Clone, Copy)]
 pub(crate) struct Reply {
     pub answer: u32,
     pub form: u32,
@@ -33,7 +35,7 @@ pub(crate) struct Reply {
 }
 
 // Where a run stands: the records that have their lines, those of them that were refused, and the bytes still to be skipped of a long record.
-#[derive(Drop)]
+#[derive(Clone, Copy)]
 pub struct State {
     pub count: u64,
     pub refused: u64,
@@ -41,7 +43,7 @@ pub struct State {
 }
 
 // Why a turn stopped: it wants more bytes; the output has no room for another line; the last line is written.
-#[derive(Drop)]
+#[derive(Clone, Copy)]
 pub enum Why {
     Wanting,
     Full,
@@ -49,7 +51,7 @@ pub enum Why {
 }
 
 // A turn: where the run stands then, how many of the bytes held are used, how many bytes are written, and why it stopped.
-#[derive(Drop)]
+#[derive(Clone, Copy)]
 pub struct Turn {
     pub state: State,
     pub used: usize,

@@ -9,7 +9,7 @@ use parser::MAX_TEXT;
 
 // A whole record: its body lies from a place up to another. A long record, or more of one: where the rest begins, and how many bytes of it are to be
 // skipped. The end of a long record. A wish for more bytes. The end of the recording.
-#[derive(Drop)]
+#[derive(Clone, Copy)]
 pub(crate) enum Event {
     Body(usize, usize),
     Skipping(usize, usize),

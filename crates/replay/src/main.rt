@@ -1,5 +1,7 @@
 // Replays a recorded day: `replay < day.rec`. The records are answered by `recording`; here bytes are moved, from standard input to where `recording`
 // looks at them, and from where it writes to standard output.
+#![tactic(auto)]
+
 mod window;
 
 ghost use Rattle.std.specs.Prelude.{◌≡◌, length};

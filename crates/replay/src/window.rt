@@ -6,7 +6,7 @@ use libc::STDIN_FILENO;
 use recording::{Turn, Why};
 
 // The bytes not yet used, from `at` up to `end`; whether the input has ended, and whether the last read failed.
-#[derive(Drop)]
+#[derive(Clone, Copy)]
 pub(crate) struct Held {
     pub at: usize,
     pub end: usize,

@@ -1,5 +1,7 @@
 // What a text means, for a person to read: the policy in words, or the refusal and the place that it is about. Whatever the text
 // holds, a report has line ends and printable ASCII bytes alone, so nothing of the text reaches a terminal but as letters.
+#![tactic(auto)]
+
 mod node;
 mod policy;
 mod refusal;

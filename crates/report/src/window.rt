@@ -17,14 +17,14 @@ const HALF: usize = 36;
 const MARGIN: usize = 4;
 
 // One end of the part, and the columns between it and the place.
-#[derive(Drop)]
+#[derive(Clone, Copy)]
 struct Side {
     at: usize,
     columns: usize,
 }
 
 // Line and column, both counted from 1.
-#[derive(Drop)]
+#[derive(Clone, Copy)]
 struct Spot {
     line: usize,
     column: usize,
