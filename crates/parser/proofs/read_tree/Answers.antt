@@ -2,7 +2,7 @@
 use Rattle.std.proofs.Common.{◌≡◌, ◌++◌, length, take, drop, sym, ap, ◌∙◌, length-take-le}
 use Rattle.cel_text.specs.Table.{Words, node_words}
 use Rattle.cel_text.specs.Answer.{tree_answer, tree_over}
-use Rattle.cel_text.specs.Laws.Table.{clean, over-cleared, answer-cleared}
+use Rattle.cel_text.proofs.Laws.Table.{clean, over-cleared, answer-cleared}
 use Rattle.parser.proofs.Answers.{clear-all, answer-short, table-short}
 use Rattle.parser.proofs.read_tree.Goals as goal
 

@@ -1,5 +1,5 @@
 -- `name::part` meets its contract: the bytes between the two places are a part of the text. Assumes nothing.
-use Rattle.cel_text.specs.Laws.Part.{part_slice}
+use Rattle.cel_text.proofs.Laws.Part.{part_slice}
 use Rattle.ast_mapping.proofs.name.part.Statement.{statement}
 use Rattle.ast_mapping.proofs.name.part.Tie as tie
 use native.Mathlib.Omega.{arith}

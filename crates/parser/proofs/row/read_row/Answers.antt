@@ -2,7 +2,7 @@
 use Rattle.std.proofs.Common.{suc, ◌*◌, ◌<◌, ◌≤◌, length, ◌∙◌, add-zero, arith}
 use borrow.Author.Tests.{lt-leb}
 use Rattle.cel_text.specs.Table.{row_words}
-use Rattle.cel_text.specs.Laws.Table.{row_inside}
+use Rattle.cel_text.proofs.Laws.Table.{row_inside}
 use Rattle.parser.proofs.row.read_row.Goals as goal
 
 pub returns-then-table-node : goal.returns-then-table-node

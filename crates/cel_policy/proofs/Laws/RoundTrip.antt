@@ -7,17 +7,17 @@ use Rattle.cel_text.specs.Byte.{Text, Run, Plain}
 use Rattle.cel_text.specs.Tree.{Tree}
 use Rattle.cel_text.specs.Abstract.{Ast, write, size_of, height_of, Writable}
 use Rattle.cel_text.specs.Reading.{max_depth, max_nodes}
-use Rattle.cel_text.specs.Laws.Complete.{complete}
+use Rattle.cel_text.proofs.Laws.Complete.{complete}
 use Rattle.cel_policy.specs.Policy.{Policy, all_strings, content, strings}
 use Rattle.cel_policy.specs.Mapping.{good, Request, Only, certified, skipped, node_of, mapping}
 use Rattle.cel_policy.specs.Printed.{Each, printed, printed_nodes, printed_depth, Proper}
 use Rattle.cel_policy.specs.Meaning.{ReadAs}
-use Rattle.cel_policy.specs.Laws.Natural.{unmap, mapping-natural}
-use Rattle.cel_policy.specs.Laws.Places.{here-all}
-use Rattle.cel_policy.specs.Laws.Written.{tree_at, seen, value_written, seen-written, nodes-tree_at, depth-tree_at}
-use Rattle.cel_policy.specs.Laws.Shape.{Shape, skips, certifies, certified_count, max_of, shape_of}
-use Rattle.cel_policy.specs.Laws.PrintedTree.{skip_value, empty_object, certified_value, printed-skip, printed-certified, size-certified, height-certified, mapping-skip, mapping-certified}
-use Rattle.cel_policy.specs.Laws.PrintedTree.{writable-empty, writable-skip, writable-certified}
+use Rattle.cel_policy.proofs.Laws.Natural.{unmap, mapping-natural}
+use Rattle.cel_policy.proofs.Laws.Places.{here-all}
+use Rattle.cel_policy.proofs.Laws.Written.{tree_at, seen, value_written, seen-written, nodes-tree_at, depth-tree_at}
+use Rattle.cel_policy.proofs.Laws.Shape.{Shape, skips, certifies, certified_count, max_of, shape_of}
+use Rattle.cel_policy.proofs.Laws.PrintedTree.{skip_value, empty_object, certified_value, printed-skip, printed-certified, size-certified, height-certified, mapping-skip, mapping-certified}
+use Rattle.cel_policy.proofs.Laws.PrintedTree.{writable-empty, writable-skip, writable-certified}
 
 -- a text is read as one policy at most
 pub read_as-unique : {S : ℕ → Bool} {x : Text} {p p' : Policy Text} {q q' n n' d d' : ℕ} → ReadAs S x p q n d → ReadAs S x p' q' n' d' → p ≡ p'

@@ -6,7 +6,7 @@ use Rattle.cel_text.specs.Byte.{blank, ident_byte, quote, comma, colon}
 use Rattle.cel_text.specs.Tree.{Kind, array, object, function, opener, closer, Tree, string, container, Trees, ∅, ◌▸◌∶◌, nodes, nodes_all, Opening, openings, openings_all}
 use Rattle.cel_text.specs.Reading.{Limits, unlimited, Stack, root, inside, level, opened, Frame, Due, value, entry, State, before, naming, named, quoted, dropping, begun, after, syntax}
 use Rattle.cel_text.specs.Reading.{too_deep, too_many, Step, go, done, refuse, step, start, past, bare, unquote, enter, enter_string, whole, child, closed, fresh, with_child}
-use Rattle.cel_text.specs.Laws.Class.{by-test}
+use Rattle.cel_text.proofs.Laws.Class.{by-test}
 
 -- ---- the nodes that have opened
 

@@ -17,9 +17,9 @@ use Rattle.cel_policy.specs.Mapping.{headers_of, list_of, response_lists, respon
 use Rattle.cel_policy.specs.Mapping.{mapping}
 use Rattle.cel_policy.specs.Answers.{all_of}
 use Rattle.cel_policy.specs.Printed.{Each, nothing, each, joined, list_text, list_key, skip_text, request_text, response_text, response_only_text, full_text, printed}
-use Rattle.cel_policy.specs.Laws.Each.{each-split, each_of, each-get_d, run-of}
-use Rattle.cel_policy.specs.Laws.Written.{seen, seen_all}
-use Rattle.cel_policy.specs.Laws.Shape.{certified_count}
+use Rattle.cel_policy.proofs.Laws.Each.{each-split, each_of, each-get_d, run-of}
+use Rattle.cel_policy.proofs.Laws.Written.{seen, seen_all}
+use Rattle.cel_policy.proofs.Laws.Shape.{certified_count}
 
 -- ---- the values
 

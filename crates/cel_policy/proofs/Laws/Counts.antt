@@ -12,28 +12,19 @@ use Rattle.cel_text.specs.Byte.{Text}
 use Rattle.cel_text.specs.Tree.{Kind, array, object, function, Tree, string, container, Trees, ∅, ◌▸◌∶◌, nodes, nodes_all}
 use Rattle.cel_text.specs.Table.{kind_number}
 use Rattle.cel_text.specs.Reading.{max_nodes}
-use Rattle.cel_text.specs.Laws.Class.{by-test, both_true}
+use Rattle.cel_text.proofs.Laws.Class.{by-test, both_true}
 use Rattle.cel_policy.specs.Names.{same, spelling, no_certification, certification, no_request_certification, request_certification, certified_request_headers, certified_query_parameters}
 use Rattle.cel_policy.specs.Names.{response_certification, certified_response_headers, response_header_exclusions, headers}
 use Rattle.cel_policy.specs.Policy.{Policy}
 use Rattle.cel_policy.specs.Mapping.{Node, leaf, branch, Nodes, childless, ◌▹◌∶◌, node_of, nodes_of, Mapped, good, bad, and_then, Typed, Request, Only, first, second, exactly_one, typed, lookup}
 use Rattle.cel_policy.specs.Mapping.{present, element, elements, string_array, first_of, first_child, headers_of, list_of, response_lists, response_part, list_at, request_lists, request_of}
 use Rattle.cel_policy.specs.Mapping.{request_part, listed, certified, certification_parts, certification_of, validation_args, mapping}
-use Rattle.cel_policy.specs.Laws.Shape.{Shape, skips, certifies}
+use Rattle.cel_policy.specs.Sizes.{size, sizes}
+use Rattle.cel_policy.proofs.Laws.Shape.{Shape, skips, certifies}
 
 -- ---- nodes
 
 module _ {A : Type 0} where
-  abbrev mutual
-    -- how many nodes there are
-    pub size : Node A → ℕ
-    size (leaf n a) = 1
-    size (branch n c name ns) = suc (sizes ns)
-
-    pub sizes : Nodes A → ℕ
-    sizes childless = 0
-    sizes (ns ▹ k ∶ n) = sizes ns + size n
-
   -- of a node that may be absent
   abbrev size_if : Option (Node A) → ℕ
   size_if none = 0

@@ -10,18 +10,18 @@ use Rattle.cel_text.specs.Byte.{Text, Run, Plain, ascii, string_byte}
 use Rattle.cel_text.specs.Tree.{Tree, nodes, depth}
 use Rattle.cel_text.specs.Table.{Words, node_words}
 use Rattle.cel_text.specs.Answer.{max_text}
-use Rattle.cel_text.specs.Laws.Class.{string_byte-plain, run-append}
-use Rattle.cel_text.specs.Laws.Find.{find-passes}
+use Rattle.cel_text.proofs.Laws.Class.{string_byte-plain, run-append}
+use Rattle.cel_text.proofs.Laws.Find.{find-passes}
 use Rattle.cel_policy.specs.Policy.{Span, Policy, Counted, counted, strings}
 use Rattle.cel_policy.specs.Meaning.{ReadAs}
 use Rattle.cel_policy.specs.Spans.{span_words, span_table}
 use Rattle.cel_policy.specs.Printed.{printed, printed_nodes, printed_depth, Proper}
 use Rattle.cel_policy.specs.Answers.{policy, find_policy, policy_answer, policy_spans, placed, Printing, written, unprinted, sized, find_print, print_answered, output, print_answer, print_output}
-use Rattle.cel_policy.specs.Laws.RoundTrip.{round_trip}
-use Rattle.cel_policy.specs.Laws.Readable.{readable}
-use Rattle.cel_policy.specs.Laws.SpanTable.{counted-placed, placed-table, print-read, prints}
-use Rattle.cel_policy.specs.Laws.Refusals.{Gives, OfPrint, print-gives}
-use Rattle.cel_policy.specs.Laws.Ascii.{Low, string_byte-low, lead-run, ascii-printed}
+use Rattle.cel_policy.proofs.Laws.RoundTrip.{round_trip}
+use Rattle.cel_policy.proofs.Laws.Readable.{readable}
+use Rattle.cel_policy.proofs.Laws.SpanTable.{counted-placed, placed-table, print-read, prints}
+use Rattle.cel_policy.proofs.Laws.Refusals.{Gives, OfPrint, print-gives}
+use Rattle.cel_policy.proofs.Laws.Ascii.{Low, string_byte-low, lead-run, ascii-printed}
 
 -- a text that is read as a policy, and is within the limits, is found to be it
 pub find-read :

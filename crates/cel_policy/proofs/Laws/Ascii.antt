@@ -5,11 +5,11 @@ use Rattle.std.proofs.lemmas.Bool.{lt-leb}
 use Rattle.cel_text.specs.Byte.{Text, Run, over, byte, ascii, ident_byte, string_byte, alphanumeric, lead}
 use Rattle.cel_text.specs.Tree.{Kind, array, object, function, opener, closer}
 use Rattle.cel_text.specs.Abstract.{Ast, str, con, Asts, ε, ◌▪◌∶◌, label, separator, write, write_all, GoodName, GoodKey, Writable, WritableAll}
-use Rattle.cel_text.specs.Laws.Class.{is_true, run-append}
+use Rattle.cel_text.proofs.Laws.Class.{is_true, run-append}
 use Rattle.cel_policy.specs.Policy.{Policy, all_strings}
 use Rattle.cel_policy.specs.Printed.{Each, printed, Proper}
-use Rattle.cel_policy.specs.Laws.Shape.{Shape, skips, certifies, shape_of}
-use Rattle.cel_policy.specs.Laws.PrintedTree.{skip_value, empty_object, certified_value, printed-skip, printed-certified, writable-empty, writable-skip, writable-certified}
+use Rattle.cel_policy.proofs.Laws.Shape.{Shape, skips, certifies, shape_of}
+use Rattle.cel_policy.proofs.Laws.PrintedTree.{skip_value, empty_object, certified_value, printed-skip, printed-certified, writable-empty, writable-skip, writable-certified}
 
 -- a set of bytes that has none of 128 or more
 abbrev pub Low : (ℕ → Bool) → Type 0

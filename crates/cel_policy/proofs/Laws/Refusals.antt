@@ -7,9 +7,9 @@ use Rattle.cel_text.specs.Tree.{Tree, nodes, depth}
 use Rattle.cel_text.specs.Table.{Words, node_words}
 use Rattle.cel_text.specs.Reading.{Fault, accepted, read, limits, max_depth, max_nodes}
 use Rattle.cel_text.specs.Answer.{max_text, fault_number, Found, tree, fault, find_tree, answered, tree_answer}
-use Rattle.cel_text.specs.Laws.Class.{by-test}
-use Rattle.cel_text.specs.Laws.Find.{FindsTree, too_short, too_long, not_ascii, broken, whole, finds, answer-within}
-pub use Rattle.cel_text.specs.Laws.Find.{fault_number-range}
+use Rattle.cel_text.proofs.Laws.Class.{by-test}
+use Rattle.cel_text.proofs.Laws.Find.{FindsTree, too_short, too_long, not_ascii, broken, whole, finds, answer-within}
+pub use Rattle.cel_text.proofs.Laws.Find.{fault_number-range}
 use Rattle.cel_policy.specs.Policy.{Span, Policy, Counted, string_count, strings}
 use Rattle.cel_policy.specs.Mapping.{Node, Refusal, Mapped, good, bad, node_of, mapping}
 use Rattle.cel_policy.specs.Spans.{span_words}
@@ -17,9 +17,9 @@ use Rattle.cel_policy.specs.Printed.{printed, shaped}
 use Rattle.cel_policy.specs.Answers.{canonical_answer, one_number, refusal_base, placed, span_fits, bytes_fit, first_fault, find_canonical, reprinted, FoundPolicy, policy, unmapped, unread, judged}
 use Rattle.cel_policy.specs.Answers.{map_tree, find_policy, policy_answered, policy_answer, Printing, written, unprinted, unless_faulty, sized, find_print, print_answered, print_answer, Judgement}
 use Rattle.cel_policy.specs.Answers.{clean, faulty, judgement, unless_judged}
-use Rattle.cel_policy.specs.Laws.Counts.{between, OfMapping, meets-mapping}
-use Rattle.cel_policy.specs.Laws.Readable.{Readable, readable}
-use Rattle.cel_policy.specs.Laws.SpanTable.{print-read}
+use Rattle.cel_policy.proofs.Laws.Counts.{between, OfMapping, meets-mapping}
+use Rattle.cel_policy.proofs.Laws.Readable.{Readable, readable}
+use Rattle.cel_policy.proofs.Laws.SpanTable.{print-read}
 
 -- ---- what holds in each case holds of what is found
 

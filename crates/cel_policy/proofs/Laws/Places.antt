@@ -3,7 +3,7 @@ use Rattle.std.specs.Prelude.{◌≡◌, refl, ℕ, suc, ◌+◌, ◌-◌, ◌�
 use Rattle.std.proofs.Common.{sym, ap, ◌∙◌, add-one, arith, append_assoc, length-append, length-drop, drop-drop}
 use Rattle.std.proofs.Math.Seq.{slice, take-append_seam, drop-append_seam}
 use Rattle.cel_text.specs.Byte.{Text}
-use Rattle.cel_text.specs.Laws.Part.{part_slice}
+use Rattle.cel_text.proofs.Laws.Part.{part_slice}
 
 -- the bytes v stand in the text x, at place p
 pub record Here (x : Text) (p : ℕ) (v : Text) : Type 0 where

@@ -8,25 +8,16 @@ use Rattle.std.proofs.Math.Option.{Option, none, some}
 use Rattle.std.proofs.Math.Dec.{lit≤}
 use Rattle.cel_text.specs.Byte.{Text}
 use Rattle.cel_text.specs.Table.{Words}
-use Rattle.cel_text.specs.Laws.Class.{by-test, both_true}
+use Rattle.cel_text.proofs.Laws.Class.{by-test, both_true}
 use Rattle.cel_policy.specs.Policy.{Span, Policy, Counted, counted, string_count, skip, response_only, full, no_list, content, strings}
 use Rattle.cel_policy.specs.Spans.{span_table, span_at}
 use Rattle.cel_policy.specs.Printed.{printed, a_kind, shaped, max_response_only, max_full}
 use Rattle.cel_policy.specs.Answers.{span_fits, all_of, bytes_fit, any_byte, first_fault, Judgement, clean, faulty, unless_faulty, judgement, sized, find_print}
-use Rattle.cel_policy.specs.Laws.Readable.{Readable}
-use Rattle.cel_policy.specs.Laws.SpanTable.{Faultless, faultless-clean, read-faultless, print-read}
+use Rattle.cel_policy.specs.Inside.{SpanInside, SpansInside}
+use Rattle.cel_policy.proofs.Laws.Readable.{Readable}
+use Rattle.cel_policy.proofs.Laws.SpanTable.{Faultless, faultless-clean, read-faultless, print-read}
 
 -- ---- where the strings lie
-
--- string i's span is in its table, ordered and inside the text
-pub record SpanInside (ws : Words) (x : Text) (i : ℕ) : Type 0 where
-  pub in_table : suc (2 * i) < length ws
-  pub ordered : (span_at ws i).from ≤ (span_at ws i).to
-  pub in_text : (span_at ws i).to ≤ length x
-
--- the same of each of n strings from string i on
-abbrev pub SpansInside : Words → Text → (n i : ℕ) → Type 0
-SpansInside ws x n i = (k : ℕ) → k < n → SpanInside ws x (i + k)
 
 pub span_fits-inside : (ws : Words) (x : Text) (i : ℕ) → span_fits ws x i ≡ true → SpanInside ws x i
 unfolding span_fits

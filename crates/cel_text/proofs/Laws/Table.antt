@@ -9,8 +9,8 @@ use Rattle.cel_text.specs.Tree.{Key, unkeyed, Tree, string, container, Trees, âˆ
 use Rattle.cel_text.specs.Reading.{syntax, too_deep, too_many, accepted, read, limits, Fault}
 use Rattle.cel_text.specs.Table.{Words, rows_of, rows_all, rows, row_words, words_at, row_at, node_words, Left, untouched, cleared, filled, hold, hold_over}
 use Rattle.cel_text.specs.Answer.{Found, nodes_after, tree_answer, tree_table, tree_over, fault, fault_number}
-use Rattle.cel_text.specs.Laws.Sound.{within}
-use Rattle.cel_text.specs.Laws.Find.{FindsTree, too_short, too_long, not_ascii, broken, whole, finds}
+use Rattle.cel_text.proofs.Laws.Sound.{within}
+use Rattle.cel_text.proofs.Laws.Find.{FindsTree, too_short, too_long, not_ascii, broken, whole, finds}
 
 -- eight words for each node
 mutual

@@ -6,9 +6,9 @@ use Rattle.cel_text.specs.Tree.{Tree}
 use Rattle.cel_text.specs.Table.{node_words}
 use Rattle.cel_text.specs.Reading.{Fault, syntax, too_deep, too_many, Outcome, accepted, refused, read, limits, max_depth, max_nodes}
 use Rattle.cel_text.specs.Answer.{max_text, fault_number, Found, tree, fault, found, find_tree, answered, tree_answer}
-use Rattle.cel_text.specs.Laws.Class.{by-test}
-use Rattle.cel_text.specs.Laws.Sound.{within}
-use Rattle.cel_text.specs.Laws.Limit.{clash}
+use Rattle.cel_text.proofs.Laws.Class.{by-test}
+use Rattle.cel_text.proofs.Laws.Sound.{within}
+use Rattle.cel_text.proofs.Laws.Limit.{clash}
 
 -- a table of w words is long enough, the text is short enough, and each of its bytes is below 128: 1, 2 and 3 do not refuse
 pub record Passes (w : ℕ) (x : Text) : Type 0 where

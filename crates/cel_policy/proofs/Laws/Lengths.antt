@@ -2,7 +2,7 @@
 use Rattle.std.specs.Prelude.{◌≡◌, refl, ℕ, ◌+◌, ◌*◌, Bool, true, false, cond, List, [], ◌∷◌, length, eqb}
 use Rattle.std.proofs.Common.{length-append, arith}
 use Rattle.cel_text.specs.Byte.{Text}
-use Rattle.cel_text.specs.Laws.Class.{same-either-way}
+use Rattle.cel_text.proofs.Laws.Class.{same-either-way}
 use Rattle.cel_policy.specs.Policy.{Policy, exclusions}
 use Rattle.cel_policy.specs.Printed.{joined, list_text, list_key, skip_text, request_text, response_text, response_only_text, full_text, printed, total, list_length, printed_length}
 

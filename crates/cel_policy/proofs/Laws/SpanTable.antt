@@ -8,16 +8,16 @@ use borrow.Author.Tests.{lt-ltb, le-leb, ltb-false}
 use Rattle.cel_text.specs.Byte.{Text, Run, over, byte}
 use Rattle.cel_text.specs.Table.{Words}
 use Rattle.cel_text.specs.Answer.{max_text}
-use Rattle.cel_text.specs.Laws.Class.{by-test, is_true}
+use Rattle.cel_text.proofs.Laws.Class.{by-test, is_true}
 use Rattle.cel_policy.specs.Policy.{Span, Policy, Counted, counted, string_count, all_strings, content, strings}
 use Rattle.cel_policy.specs.Spans.{span_rows, span_table, span_at, spans_at}
 use Rattle.cel_policy.specs.Printed.{Each, nothing, each, printed, shaped, Printable}
 use Rattle.cel_policy.specs.Answers.{placed, span_fits, all_of, bytes_fit, first_fault, Judgement, clean, faulty}
 use Rattle.cel_policy.specs.Answers.{unless_faulty, judgement, Printing, written, unprinted, unless_judged, sized, find_print}
-use Rattle.cel_policy.specs.Laws.Each.{each_map, run-of}
-use Rattle.cel_policy.specs.Laws.Natural.{all_strings-over}
-use Rattle.cel_policy.specs.Laws.Shape.{shape-right}
-use Rattle.cel_policy.specs.Laws.Readable.{Fits, Readable}
+use Rattle.cel_policy.proofs.Laws.Each.{each_map, run-of}
+use Rattle.cel_policy.proofs.Laws.Natural.{all_strings-over}
+use Rattle.cel_policy.proofs.Laws.Shape.{shape-right}
+use Rattle.cel_policy.proofs.Laws.Readable.{Fits, Readable}
 
 -- ---- the table read back
 

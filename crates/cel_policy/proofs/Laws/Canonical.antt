@@ -5,18 +5,18 @@ use Rattle.std.proofs.Math.Seq.{take-append_seam}
 use Rattle.cel_text.specs.Byte.{Text, Run, Plain, ascii, string_byte}
 use Rattle.cel_text.specs.Table.{node_words}
 use Rattle.cel_text.specs.Answer.{max_text}
-use Rattle.cel_text.specs.Laws.Class.{string_byte-plain}
+use Rattle.cel_text.proofs.Laws.Class.{string_byte-plain}
 use Rattle.cel_policy.specs.Policy.{Policy, strings}
 use Rattle.cel_policy.specs.Meaning.{ReadAs}
 use Rattle.cel_policy.specs.Spans.{span_words}
 use Rattle.cel_policy.specs.Printed.{printed, Printable}
 use Rattle.cel_policy.specs.Answers.{FoundPolicy, Printing, written, unprinted, sized, output, reprinted, find_canonical, one_number, canonical_answer, canonical_output}
-use Rattle.cel_policy.specs.Laws.RoundTrip.{round_trip}
-use Rattle.cel_policy.specs.Laws.Readable.{readable, readable-proper}
-use Rattle.cel_policy.specs.Laws.SpanTable.{print-read, refused-written, sized-written}
-use Rattle.cel_policy.specs.Laws.Refusals.{find_policy-cases}
-use Rattle.cel_policy.specs.Laws.Ascii.{Low, string_byte-low, ascii-printed}
-use Rattle.cel_policy.specs.Laws.Entries.{find-read, sized-fits}
+use Rattle.cel_policy.proofs.Laws.RoundTrip.{round_trip}
+use Rattle.cel_policy.proofs.Laws.Readable.{readable, readable-proper}
+use Rattle.cel_policy.proofs.Laws.SpanTable.{print-read, refused-written, sized-written}
+use Rattle.cel_policy.proofs.Laws.Refusals.{find_policy-cases}
+use Rattle.cel_policy.proofs.Laws.Ascii.{Low, string_byte-low, ascii-printed}
+use Rattle.cel_policy.proofs.Laws.Entries.{find-read, sized-fits}
 
 -- a text that is read as a policy, within the limits, canonicalises to that policy's text
 pub canonical-read :

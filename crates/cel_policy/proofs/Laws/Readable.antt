@@ -8,15 +8,15 @@ use Rattle.cel_text.specs.Byte.{Text, ◌⧺◌, Run, Blanks, quote}
 use Rattle.cel_text.specs.Tree.{Kind, opener, closer, Key, Tree, string, container, Trees, ◌▸◌∶◌, nodes_all}
 use Rattle.cel_text.specs.Grammar.{Value, a_string, a_container, no_child, one_more}
 use Rattle.cel_text.specs.Reading.{accepted, read, limits}
-use Rattle.cel_text.specs.Laws.Sound.{sound, within}
+use Rattle.cel_text.proofs.Laws.Sound.{sound, within}
 use Rattle.cel_policy.specs.Policy.{Span, Policy, all_strings, over_strings, content, strings}
 use Rattle.cel_policy.specs.Mapping.{Node, leaf, branch, Nodes, childless, ◌▹◌∶◌, key_bytes, node_of, nodes_of, good, mapping}
 use Rattle.cel_policy.specs.Printed.{Each, nothing, each, Proper}
-use Rattle.cel_policy.specs.Laws.Each.{each_map}
-use Rattle.cel_policy.specs.Laws.Natural.{over_node, over_nodes, unmap, all_strings-over, mapping-natural}
-use Rattle.cel_policy.specs.Laws.Places.{Here, here-left, here-right, here-next, here-inside, here-slice}
-use Rattle.cel_policy.specs.Laws.Shape.{Shape, shape-right}
-use Rattle.cel_policy.specs.Laws.Counts.{size-node_of, meets-mapping}
+use Rattle.cel_policy.proofs.Laws.Each.{each_map}
+use Rattle.cel_policy.proofs.Laws.Natural.{over_node, over_nodes, unmap, all_strings-over, mapping-natural}
+use Rattle.cel_policy.proofs.Laws.Places.{Here, here-left, here-right, here-next, here-inside, here-slice}
+use Rattle.cel_policy.proofs.Laws.Shape.{Shape, shape-right}
+use Rattle.cel_policy.proofs.Laws.Counts.{size-node_of, meets-mapping}
 
 -- a span that print accepts: it fits, and its bytes are string bytes
 pub record Fits (S : ℕ → Bool) (x : Text) (s : Span) : Type 0 where

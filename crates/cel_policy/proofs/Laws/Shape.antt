@@ -2,7 +2,7 @@
 use Rattle.std.specs.Prelude.{◌≡◌, refl, ◌⊎◌, ℕ, ◌+◌, ◌≤◌, Bool, true, false, ◌||◌, List, [], ◌∷◌, length, eqb}
 use Rattle.std.proofs.Common.{ap, inl, inr, ⊎_elim, suc-ne-zero, arith, eqb-true, leb-true, le-leb}
 use Rattle.std.proofs.Math.Option.{Option, none, some}
-use Rattle.cel_text.specs.Laws.Class.{by-test, both_true}
+use Rattle.cel_text.proofs.Laws.Class.{by-test, both_true}
 use Rattle.cel_policy.specs.Policy.{Policy, counted, skip, response_only, full, no_list, inclusions, exclusions}
 use Rattle.cel_policy.specs.Mapping.{Request, Only, first, second, list_kind, listed, certified, skipped}
 use Rattle.cel_policy.specs.Printed.{a_kind, shaped, max_response_only, max_full}

@@ -11,12 +11,8 @@ use Rattle.cel_text.specs.Tree.{Tree, opener, array}
 use Rattle.cel_text.specs.Grammar.{Named, nameless, with_name}
 use Rattle.cel_text.specs.Reading.{Limits, Stack, root, inside, Frame, Due, value, entry, State, before, naming, named, quoted, dropping, begun, after, Step, go, done, refuse, step, start}
 use Rattle.cel_text.specs.Reading.{past, bare, unquote, whole, with_child, Outcome, accepted, ended, stopped, outcome, meet, follow, halt, run}
-use Rattle.cel_text.specs.Laws.Class.{is_true, ident-blank, blank-ident}
-
--- reading on, once the value t is whole, at place q
-abbrev pub resume : (ℕ → Bool) → Limits → Stack → Tree → ℕ → Text → Outcome
-resume S L root t q rest = accepted t q
-resume S L (inside K f) t q rest = run S L (after K (with_child f t)) q rest
+use Rattle.cel_text.specs.Resume.{resume}
+use Rattle.cel_text.proofs.Laws.Class.{is_true, ident-blank, blank-ident}
 
 module _ (S : ℕ → Bool) (L : Limits) where
   -- what reading on gives is the outcome of where it stops

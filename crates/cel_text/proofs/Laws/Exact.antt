@@ -6,10 +6,10 @@ use Rattle.cel_text.specs.Byte.{Text, Plain}
 use Rattle.cel_text.specs.Tree.{Tree, nodes, depth}
 use Rattle.cel_text.specs.Grammar.{Legal, Longest}
 use Rattle.cel_text.specs.Reading.{limits, max_depth, max_nodes, Fault, syntax, too_deep, too_many, Outcome, accepted, refused, read}
-use Rattle.cel_text.specs.Laws.Complete.{complete}
-use Rattle.cel_text.specs.Laws.Sound.{Reads, sound, within}
-use Rattle.cel_text.specs.Laws.Place.{syntax-unlimited, refused-illegal, refused-longest, longest-unique}
-use Rattle.cel_text.specs.Laws.Limit.{clash, Depth33, Node257, Clear, Falls, refused-clear, clear-limit, deep-exact, many-exact}
+use Rattle.cel_text.proofs.Laws.Complete.{complete}
+use Rattle.cel_text.proofs.Laws.Sound.{Reads, sound, within}
+use Rattle.cel_text.proofs.Laws.Place.{syntax-unlimited, refused-illegal, refused-longest, longest-unique}
+use Rattle.cel_text.proofs.Laws.Limit.{clash, Depth33, Node257, Clear, Falls, refused-clear, clear-limit, deep-exact, many-exact}
 
 module _ (S : ℕ → Bool) where
   -- the text begins with a whole value within the limits, which is t and ends at place q

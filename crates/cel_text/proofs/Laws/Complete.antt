@@ -13,9 +13,10 @@ use Rattle.cel_text.specs.Grammar.{Named, nameless, with_name, Head, array_head,
 use Rattle.cel_text.specs.Grammar.{a_container, no_child, one_more}
 use Rattle.cel_text.specs.Reading.{Limits, Stack, root, inside, level, opened, Frame, Due, value, entry, State, before, quoted, dropping, begun, after, Step, go, step, start, past, bare}
 use Rattle.cel_text.specs.Reading.{unquote, enter, enter_string, whole, child, closed, fresh, with_key, accepted, follow, run, read, limits, unlimited, max_depth, max_nodes}
-use Rattle.cel_text.specs.Laws.Class.{is_true, is_false, blank-ident, closer-blank, closer-comma, closer-closer}
-use Rattle.cel_text.specs.Laws.Admit.{Admits, AdmitsAll, fits-admits, unlimited-admits}
-use Rattle.cel_text.specs.Laws.Run.{resume, whole-resumes, before-blanks, quoted-strings, dropping-blanks, begun-blanks, after-blanks, after-name}
+use Rattle.cel_text.proofs.Laws.Class.{is_true, is_false, blank-ident, closer-blank, closer-comma, closer-closer}
+use Rattle.cel_text.proofs.Laws.Admit.{Admits, AdmitsAll, fits-admits, unlimited-admits}
+use Rattle.cel_text.specs.Resume.{resume}
+use Rattle.cel_text.proofs.Laws.Run.{whole-resumes, before-blanks, quoted-strings, dropping-blanks, begun-blanks, after-blanks, after-name}
 
 -- ---- a child begins with blanks and a byte that is no blank and no closer
 

@@ -10,11 +10,12 @@ use Rattle.cel_text.specs.Tree.{function, opener, closer, unkeyed, key, Tree, st
 use Rattle.cel_text.specs.Grammar.{a_string, Legal, Viable, Longest}
 use Rattle.cel_text.specs.Reading.{Limits, unlimited, Stack, root, inside, Frame, Due, value, entry, State, before, naming, named, quoted, dropping, begun, after, Fault, syntax, Step, go}
 use Rattle.cel_text.specs.Reading.{done, refuse, step, start, past, bare, unquote, enter, closed, fresh, with_key, with_child, Outcome, accepted, refused, run, read}
-use Rattle.cel_text.specs.Laws.Run.{resume, whole-resumes}
-use Rattle.cel_text.specs.Laws.Complete.{reads-value, closes, complete-unlimited}
-use Rattle.cel_text.specs.Laws.Trace.{Trace, here, there, traced, Accepts, Refuses, Stops, Ends, ends}
-use Rattle.cel_text.specs.Laws.Move.{Moves, quiet, opens, finishes, stops, deep, many, step-moves}
-use Rattle.cel_text.specs.Laws.Sound.{Reads, sound}
+use Rattle.cel_text.specs.Resume.{resume}
+use Rattle.cel_text.proofs.Laws.Run.{whole-resumes}
+use Rattle.cel_text.proofs.Laws.Complete.{reads-value, closes, complete-unlimited}
+use Rattle.cel_text.proofs.Laws.Trace.{Trace, here, there, traced, Accepts, Refuses, Stops, Ends, ends}
+use Rattle.cel_text.proofs.Laws.Move.{Moves, quiet, opens, finishes, stops, deep, many, step-moves}
+use Rattle.cel_text.proofs.Laws.Sound.{Reads, sound}
 
 -- ---- with limits a step is the same, or refuses for a limit
 

@@ -10,8 +10,8 @@ use Rattle.cel_text.specs.Grammar.{Named, nameless, with_name, Head, array_head,
 use Rattle.cel_text.specs.Grammar.{Children, no_child, one_more}
 use Rattle.cel_policy.specs.Policy.{content}
 use Rattle.cel_policy.specs.Mapping.{Node, leaf, branch, Nodes, childless, ◌▹◌∶◌, key_bytes, node_of, nodes_of}
-use Rattle.cel_policy.specs.Laws.Natural.{over_node, over_nodes}
-use Rattle.cel_policy.specs.Laws.Places.{Here, here-left, here-right, here-next, here-slice}
+use Rattle.cel_policy.proofs.Laws.Natural.{over_node, over_nodes}
+use Rattle.cel_policy.proofs.Laws.Places.{Here, here-left, here-right, here-next, here-slice}
 
 -- the ends of a name and of a key that stand at place p
 abbrev pub name_from : Kind → (p : ℕ) → ℕ

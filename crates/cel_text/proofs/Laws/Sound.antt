@@ -15,9 +15,9 @@ use Rattle.cel_text.specs.Grammar.{Named, nameless, with_name, Head, array_head,
 use Rattle.cel_text.specs.Grammar.{a_container, Children, no_child, one_more}
 use Rattle.cel_text.specs.Reading.{Limits, Stack, root, inside, level, opened, Frame, Due, value, entry, State, before, naming, named, quoted, dropping, begun, after, Step, go, done, refuse}
 use Rattle.cel_text.specs.Reading.{step, start, past, bare, unquote, enter, enter_string, whole, child, closed, with_key, accepted, read, limits, max_depth, max_nodes}
-use Rattle.cel_text.specs.Laws.Class.{by-test}
-use Rattle.cel_text.specs.Laws.Admit.{Admits, AdmitsAll, admits-fits}
-use Rattle.cel_text.specs.Laws.Trace.{Trace, here, there, Accepts, Ends, ends}
+use Rattle.cel_text.proofs.Laws.Class.{by-test}
+use Rattle.cel_text.proofs.Laws.Admit.{Admits, AdmitsAll, admits-fits}
+use Rattle.cel_text.proofs.Laws.Trace.{Trace, here, there, Accepts, Ends, ends}
 
 -- one byte more at a run's end
 snoc : {f : ℕ → Bool} {x : Text} → Run f x → (b : ℕ) → T (f b) → Run f (x ++ b ∷ [])

@@ -12,10 +12,10 @@ use Rattle.cel_text.specs.Tree.{Tree, Opening, openings, OpensAs}
 use Rattle.cel_text.specs.Grammar.{Legal, Viable, Always}
 use Rattle.cel_text.specs.Reading.{Limits, unlimited, limits, max_depth, max_nodes, root, value, State, before, Fault, syntax, too_deep, too_many, Step, go, done, refuse, step, Outcome, accepted}
 use Rattle.cel_text.specs.Reading.{refused, run, read}
-use Rattle.cel_text.specs.Laws.Trace.{Trace, here, there, traced, trace-snoc, trace-take, Accepts, Refuses, Stops, Ends, ends}
-use Rattle.cel_text.specs.Laws.Move.{at, opened_by, Shallow, Moves, quiet, opens, finishes, stops, deep, many, step-moves}
-use Rattle.cel_text.specs.Laws.Sound.{Reads, sound}
-use Rattle.cel_text.specs.Laws.Place.{trace-unlimited, trace-viable, legal-accepted, refused-longest, dead, moves-done, moves-syntax}
+use Rattle.cel_text.proofs.Laws.Trace.{Trace, here, there, traced, trace-snoc, trace-take, Accepts, Refuses, Stops, Ends, ends}
+use Rattle.cel_text.proofs.Laws.Move.{at, opened_by, Shallow, Moves, quiet, opens, finishes, stops, deep, many, step-moves}
+use Rattle.cel_text.proofs.Laws.Sound.{Reads, sound}
+use Rattle.cel_text.proofs.Laws.Place.{trace-unlimited, trace-viable, legal-accepted, refused-longest, dead, moves-done, moves-syntax}
 
 -- constructors that differ: `clash cc`
 pub clash : {A : Type 0} → ◌≡◌ {A = ℕ} 0 1 → A

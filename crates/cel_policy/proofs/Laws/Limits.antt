@@ -8,7 +8,7 @@ use Rattle.std.proofs.Math.Seq.{take-length}
 use Rattle.cel_text.specs.Byte.{Text, ◌⧺◌, Run, over, ascii, string_byte, bytes}
 use Rattle.cel_text.specs.Abstract.{Ast, str, write, size_of, height_of, Writable}
 use Rattle.cel_text.specs.Table.{Words, node_words}
-use Rattle.cel_text.specs.Laws.Class.{string_byte-plain}
+use Rattle.cel_text.proofs.Laws.Class.{string_byte-plain}
 use Rattle.cel_policy.specs.Names.{spelling}
 use Rattle.cel_policy.specs.Policy.{Span, Policy, Counted, counted, response_only, inclusions}
 use Rattle.cel_policy.specs.Mapping.{first, certified}
@@ -16,16 +16,16 @@ use Rattle.cel_policy.specs.Meaning.{ReadAs}
 use Rattle.cel_policy.specs.Spans.{span_words, span_table}
 use Rattle.cel_policy.specs.Printed.{nothing, each, printed, printed_length}
 use Rattle.cel_policy.specs.Answers.{policy, find_policy, policy_spans, print_answered, policy_answer, sized, unprinted, find_print, print_answer, canonical_answer, refusal_base}
-use Rattle.cel_policy.specs.Laws.Lengths.{length-printed}
-use Rattle.cel_policy.specs.Laws.Shape.{certifies}
-use Rattle.cel_policy.specs.Laws.PrintedTree.{certified_value, size-certified, height-certified, mapping-certified, writable-certified}
-use Rattle.cel_policy.specs.Laws.RoundTrip.{written_read}
-use Rattle.cel_policy.specs.Laws.Readable.{Fits, Readable}
-use Rattle.cel_policy.specs.Laws.SpanTable.{print-read}
-use Rattle.cel_policy.specs.Laws.Refusals.{found-readable}
-use Rattle.cel_policy.specs.Laws.Ascii.{string_byte-low, ascii-written}
-use Rattle.cel_policy.specs.Laws.Entries.{find-read, counted-strings, sized-fits, sized-long}
-use Rattle.cel_policy.specs.Laws.Canonical.{canonical-read}
+use Rattle.cel_policy.proofs.Laws.Lengths.{length-printed}
+use Rattle.cel_policy.proofs.Laws.Shape.{certifies}
+use Rattle.cel_policy.proofs.Laws.PrintedTree.{certified_value, size-certified, height-certified, mapping-certified, writable-certified}
+use Rattle.cel_policy.proofs.Laws.RoundTrip.{written_read}
+use Rattle.cel_policy.proofs.Laws.Readable.{Fits, Readable}
+use Rattle.cel_policy.proofs.Laws.SpanTable.{print-read}
+use Rattle.cel_policy.proofs.Laws.Refusals.{found-readable}
+use Rattle.cel_policy.proofs.Laws.Ascii.{string_byte-low, ascii-written}
+use Rattle.cel_policy.proofs.Laws.Entries.{find-read, counted-strings, sized-fits, sized-long}
+use Rattle.cel_policy.proofs.Laws.Canonical.{canonical-read}
 
 -- ResponseOnly with one included header
 abbrev one_header : {A : Type 0} → A → Policy A

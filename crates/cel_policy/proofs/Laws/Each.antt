@@ -1,7 +1,7 @@
 -- Properties that each member of a list has, and tests of them. Assumes nothing.
 use Rattle.std.specs.Prelude.{ℕ, zero, suc, Bool, false, List, [], ◌∷◌, ◌++◌, map, get_or, T}
 use Rattle.cel_text.specs.Byte.{Text, Run, over, byte}
-use Rattle.cel_text.specs.Laws.Class.{by-test}
+use Rattle.cel_text.proofs.Laws.Class.{by-test}
 use Rattle.cel_policy.specs.Printed.{Each, nothing, each}
 use Rattle.cel_policy.specs.Answers.{all_of}
 
