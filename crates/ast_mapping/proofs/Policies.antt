@@ -10,7 +10,7 @@ use lib.Seq.{sets, sets-eq, length-sets, length-take-le, take_all, take_at, drop
 use borrow.Author.Tests.{lt-ltb, le-ltb, ne_eqb, le-leb}
 use Rattle.cel_text.specs.Byte.{Text}
 use Rattle.cel_text.specs.Tree.{Tree}
-use Rattle.cel_text.specs.Reading.{accepted, refused, read, limits, max_nodes, Fault}
+use Rattle.cel_text.specs.Reading.{accepted, read, limits, max_nodes, Fault}
 use Rattle.cel_text.specs.Table.{Words, Left, untouched, cleared, filled, rows, hold, hold_over, nodes_left, node_words}
 use Rattle.cel_text.specs.Answer.{Found, tree, fault, find_tree, answered, nodes_after, tree_answer, Answer as TreeAnswer, fault_number}
 use Rattle.cel_text.proofs.Laws.Table.{hold-front}
