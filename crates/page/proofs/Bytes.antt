@@ -13,9 +13,9 @@ use Rattle.page.specs.Page.{shown_byte}
 
 -- a byte that is shown as no pair
 module _ (b : ℕ) where
-  pub shown-plain : (b ≡ 92 → ⊥) → 32 ≤ b → b < 127 → shown_byte b ≡ b ∷ []
+  pub shown_plain : (b ≡ 92 → ⊥) → 32 ≤ b → b < 127 → shown_byte b ≡ b ∷ []
   unfolding shown_byte
-  shown-plain n l h =
+  shown_plain n l h =
       rw (ne_eqb b 9 (λ e. omega (arith, e)), ne_eqb b 10 (λ e. omega (arith, e)), ne_eqb b 13 (λ e. omega (arith, e)))
       (rw (ne_eqb b 92 n, le-leb 32 b l, le-leb b 126 (omega arith)))
 

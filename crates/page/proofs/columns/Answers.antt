@@ -3,7 +3,7 @@ use Rattle.std.proofs.Common.{length, sym, ap, arith}
 use Rattle.cel_text.specs.Byte.{Text}
 use Rattle.lines.specs.Texts.{pair}
 use Rattle.page.specs.Page.{shown_byte}
-use Rattle.page.proofs.Bytes.{shown-plain, shown-low, shown-high}
+use Rattle.page.proofs.Bytes.{shown_plain, shown-low, shown-high}
 use Rattle.page.proofs.columns.Goals as goal
 
 pub returns-in-9 : goal.returns-in-9
@@ -23,7 +23,7 @@ unfolding shown_byte
 returns-in-92 c = rw c.in-92.is
 
 pub returns-in-32-to-126 : goal.returns-in-32-to-126
-returns-in-32-to-126 c = sym (ap (λ (x : Text). length x) (shown-plain c.args.b (λ e. omega (arith, e)) (omega arith) (omega arith)))
+returns-in-32-to-126 c = sym (ap (λ (x : Text). length x) (shown_plain c.args.b (λ e. omega (arith, e)) (omega arith) (omega arith)))
 
 pub returns-in_default : goal.returns-in_default
 unfolding pair

