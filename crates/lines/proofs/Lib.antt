@@ -1,3 +1,4 @@
 -- Lemmas on what the contracts cite.
 mod Fields
 mod Front
+mod Parts

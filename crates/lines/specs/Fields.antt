@@ -1,6 +1,6 @@
 -- The fields of a line, hexadecimal digits and decimal numbers, and where its parts begin. Assumes nothing.
 use Rattle.std.specs.Prelude.{ℕ, zero, suc, ◌+◌, ◌-◌, ◌*◌, ◌/◌, ◌≤◌, min, Bool, cond, ◌&&◌, List, [], ◌∷◌, ◌++◌, length, take, drop, ltb, leb, eqb}
-use Rattle.bytes.specs.Bytes.{index_of, slice}
+use Rattle.lines.specs.Bytes.{index_of, slice}
 use Rattle.lines.specs.declared.field.Count.{Count}
 use Rattle.lines.specs.declared.field.Count.TheVariants.{Number, Bad}
 use Rattle.lines.specs.declared.field.Field.{Field}

@@ -2,6 +2,8 @@
 ghost use Rattle.std.specs.Prelude.{◌≡◌, ◌≤◌, length};
 ghost use Rattle.lines.specs.Fields.{hex_value, hex_count, hex_left, read_decimal, AtMost, number_after, part_from, Within};
 
+use crate::place::find;
+
 // How many bytes a field gives, or the number that it is.
 #[derive(Clone, Copy)]
 pub enum Count {
@@ -113,7 +115,7 @@ pub fn number_after(line: &[u8], at: usize, most: u32) -> Field
         return Field::Wrong;
     }
     let from = at + 1;
-    let end = bytes::scan::find(line, from, line.len(), b'\t');
+    let end = find(line, from, line.len(), b'\t');
     let count = decimal(&line[from..end], most);
     let Count::Number(n) = count else {
         return Field::Wrong;
@@ -129,7 +131,7 @@ pub fn part_start(line: &[u8], number: u32, mark: u8) -> usize
     let mut at = 0;
     let mut i = 0;
     while i < number {
-        let end = bytes::scan::find(line, at, line.len(), mark);
+        let end = find(line, at, line.len(), mark);
         if end == line.len() {
             return end;
         }

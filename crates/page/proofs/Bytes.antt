@@ -12,24 +12,22 @@ use Rattle.lines.specs.Texts.{pair}
 use Rattle.page.specs.Page.{shown_byte}
 
 -- a byte that is shown as no pair
-abbrev pub Unpaired : ℕ → Type 0
-Unpaired b = (((Unit {0} × (b ≡ 9 → ⊥)) × (b ≡ 10 → ⊥)) × (b ≡ 13 → ⊥)) × (b ≡ 92 → ⊥)
-
-module _ (b : ℕ) (u : Unpaired b) where
-  pub shown-plain : 32 ≤ b → b < 127 → shown_byte b ≡ b ∷ []
+module _ (b : ℕ) where
+  pub shown_plain : (b ≡ 92 → ⊥) → 32 ≤ b → b < 127 → shown_byte b ≡ b ∷ []
   unfolding shown_byte
-  shown-plain l h =
-      rw (ne_eqb b 9 u.0.0.0.1, ne_eqb b 10 u.0.0.1, ne_eqb b 13 u.0.1, ne_eqb b 92 u.1, le-leb 32 b l, le-leb b 126 (omega arith))
+  shown_plain n l h =
+      rw (ne_eqb b 9 (λ e. omega (arith, e)), ne_eqb b 10 (λ e. omega (arith, e)), ne_eqb b 13 (λ e. omega (arith, e)))
+      (rw (ne_eqb b 92 n, le-leb 32 b l, le-leb b 126 (omega arith)))
 
-  pub shown-low : b < 32 → shown_byte b ≡ bytes "\\x" ++ pair b
+  pub shown-low : (b ≡ 9 → ⊥) → (b ≡ 10 → ⊥) → (b ≡ 13 → ⊥) → b < 32 → shown_byte b ≡ bytes "\\x" ++ pair b
   unfolding shown_byte
-  shown-low h =
-      rw (ne_eqb b 9 u.0.0.0.1, ne_eqb b 10 u.0.0.1, ne_eqb b 13 u.0.1, ne_eqb b 92 u.1, lt-leb 32 b h)
+  shown-low tab line return h = rw (ne_eqb b 9 tab, ne_eqb b 10 line, ne_eqb b 13 return, ne_eqb b 92 (λ e. omega (arith, e)), lt-leb 32 b h)
 
   pub shown-high : 127 ≤ b → shown_byte b ≡ bytes "\\x" ++ pair b
   unfolding shown_byte
   shown-high h =
-      rw (ne_eqb b 9 u.0.0.0.1, ne_eqb b 10 u.0.0.1, ne_eqb b 13 u.0.1, ne_eqb b 92 u.1, le-leb 32 b (omega arith), lt-leb b 126 (omega arith))
+      rw (ne_eqb b 9 (λ e. omega (arith, e)), ne_eqb b 10 (λ e. omega (arith, e)), ne_eqb b 13 (λ e. omega (arith, e)), ne_eqb b 92 (λ e. omega (arith, e)))
+      (rw (le-leb 32 b (omega arith), lt-leb b 126 (omega arith)))
 
 flat_append : (f : ℕ → Text) (x y : Text) → flat_map f (x ++ y) ≡ flat_map f x ++ flat_map f y
 unfolding flat_map

@@ -25,6 +25,7 @@ fn put_plain(out: &mut [u8], at: usize, b: u8) -> usize
 }
 
 // A byte as it is shown.
+#[tactic(auto, using(crate::proofs::Bytes::shown_plain))]
 fn put_byte(out: &mut [u8], at: usize, b: u8) -> usize
     ensures { Wrote out.old out.new at result (shown_byte b) }
 {
