@@ -13,7 +13,7 @@ use Rattle.cel_text.specs.Reading.{max_nodes}
 use Rattle.cel_text.specs.Table.{Words, row_words, kind_number, string_kind, word}
 use Rattle.cel_policy.specs.Policy.{Span}
 use Rattle.cel_policy.specs.Mapping.{Node, leaf, branch, Nodes, childless, ◌▹◌∶◌, Refusal, good, bad, unexpected_type, element, elements, string_array}
-use Rattle.cel_policy.specs.Laws.Counts.{sizes}
+use Rattle.cel_policy.specs.Sizes.{sizes}
 use Rattle.ast_mapping.specs.View.{span_of, spans_from, strings_of, node_at, number, children, Stands, Held, Tabled}
 use Rattle.ast_mapping.proofs.View.{no-string, Begins, all, less, begins-none, past, within, later, Child, next-child, last-child}
 

@@ -7,12 +7,12 @@ use Rattle.cel_text.specs.Byte.{Text}
 use Rattle.cel_text.specs.Tree.{object}
 use Rattle.cel_text.specs.Reading.{max_nodes}
 use Rattle.cel_text.specs.Table.{Words, word}
-use Rattle.cel_text.specs.Laws.Limit.{clash}
+use Rattle.cel_text.proofs.Laws.Limit.{clash}
 use Rattle.cel_policy.specs.Names.{ValidationArgs, Certification, RequestCertification}
 use Rattle.cel_policy.specs.Policy.{Span}
 use Rattle.cel_policy.specs.Mapping.{Node, Nodes, childless, ◌▹◌∶◌, Refusal, good, bad, and_then, exactly_one, typed, lookup, present, headers_of, list_of, response_lists, response_part}
 use Rattle.cel_policy.specs.Mapping.{list_at, request_lists, request_of, request_part, certified, certification_parts, certification_of, validation_args, first_of, first_child, mapping}
-use Rattle.cel_policy.specs.Laws.Natural.{over_mapped, over_only}
+use Rattle.cel_policy.proofs.Laws.Natural.{over_mapped, over_only}
 use Rattle.parser.specs.declared.Node.{Node as Numbered}
 use Rattle.ast_mapping.specs.View.{strings_of, node_at, children, typed_at, Held, Tabled}
 use Rattle.ast_mapping.specs.Steps.{found_as, numbered, FoundIf, OnlyIf, Looked, refusal_told, fields_used, SmallNode, Checked, ListChecked, only_as, Listing, HeadersFound}

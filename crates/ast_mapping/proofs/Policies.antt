@@ -10,19 +10,20 @@ use lib.Seq.{sets, sets-eq, length-sets, length-take-le, take_all, take_at, drop
 use borrow.Author.Tests.{lt-ltb, le-ltb, ne_eqb, le-leb}
 use Rattle.cel_text.specs.Byte.{Text}
 use Rattle.cel_text.specs.Tree.{Tree}
-use Rattle.cel_text.specs.Reading.{accepted, refused, read, limits, max_nodes, Fault}
+use Rattle.cel_text.specs.Reading.{accepted, read, limits, max_nodes, Fault}
 use Rattle.cel_text.specs.Table.{Words, Left, untouched, cleared, filled, rows, hold, hold_over, nodes_left, node_words}
 use Rattle.cel_text.specs.Answer.{Found, tree, fault, find_tree, answered, nodes_after, tree_answer, Answer as TreeAnswer, fault_number}
-use Rattle.cel_text.specs.Laws.Table.{hold-front}
+use Rattle.cel_text.proofs.Laws.Table.{hold-front}
 use Rattle.cel_policy.specs.Policy.{Span, Policy, Counted, counted, string_count, no_policy, all_strings, numbers}
 use Rattle.cel_policy.specs.Printed.{max_response_only}
 use Rattle.cel_policy.specs.Mapping.{Node, Mapped, good, bad, node_of, mapping}
 use Rattle.cel_policy.specs.Spans.{span_rows, span_words, span_table, spans_left}
 use Rattle.cel_policy.specs.Answers.{unread, judged, map_tree, find_policy, PolicyAnswer, policy_answered, nodes_held, spans_held, policy_answer}
-use Rattle.cel_policy.specs.Laws.Shape.{Shape, skips, certifies}
-use Rattle.cel_policy.specs.Laws.Counts.{size, Meets, OfMapping, meets-mapping}
-use Rattle.cel_text.specs.Laws.Find.{FindsTree, finds, too_short, too_long, not_ascii, broken, whole, fault_number-range}
-use Rattle.cel_policy.specs.Laws.SpanTable.{length-span_rows}
+use Rattle.cel_policy.proofs.Laws.Shape.{Shape, skips, certifies}
+use Rattle.cel_policy.specs.Sizes.{size}
+use Rattle.cel_policy.proofs.Laws.Counts.{Meets, OfMapping, meets-mapping}
+use Rattle.cel_text.proofs.Laws.Find.{FindsTree, finds, too_short, too_long, not_ascii, broken, whole, fault_number-range}
+use Rattle.cel_policy.proofs.Laws.SpanTable.{length-span_rows}
 use Rattle.parser.specs.Found.{told}
 use Rattle.parser.specs.Set.{string_set}
 use Rattle.parser.specs.declared.Answer.{Answer}

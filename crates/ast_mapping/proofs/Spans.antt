@@ -11,7 +11,7 @@ use Rattle.cel_text.specs.Reading.{max_nodes}
 use Rattle.cel_text.specs.Table.{Words, word}
 use Rattle.cel_policy.specs.Policy.{Span}
 use Rattle.cel_policy.specs.Spans.{span_rows}
-use Rattle.cel_policy.specs.Laws.SpanTable.{span_rows-append, length-span_rows}
+use Rattle.cel_policy.proofs.Laws.SpanTable.{span_rows-append, length-span_rows}
 use Rattle.parser.specs.declared.Node.{Node as Numbered}
 use Rattle.parser.proofs.Rows.{sets-append}
 use Rattle.ast_mapping.specs.declared.mapping.Mapped.TheVariants.{Full}

@@ -12,10 +12,11 @@ use Rattle.cel_text.specs.Byte.{Text}
 use Rattle.cel_text.specs.Tree.{Kind, array, object, function}
 use Rattle.cel_text.specs.Reading.{max_nodes}
 use Rattle.cel_text.specs.Table.{Words, Row, row_words, string_kind, kind_number, word, words_at, row_at}
-use Rattle.cel_text.specs.Laws.Table.{row_inside}
+use Rattle.cel_text.proofs.Laws.Table.{row_inside}
 use Rattle.cel_policy.specs.Policy.{Span}
 use Rattle.cel_policy.specs.Mapping.{Node, leaf, branch, Nodes, childless, ◌▹◌∶◌}
-use Rattle.cel_policy.specs.Laws.Counts.{size, sizes, size-positive}
+use Rattle.cel_policy.specs.Sizes.{size, sizes}
+use Rattle.cel_policy.proofs.Laws.Counts.{size-positive}
 use Rattle.parser.specs.Kinds.{kind_of}
 use Rattle.parser.specs.Rows.{row_told}
 use Rattle.parser.specs.declared.row.Row.{Row as Told-row}

@@ -10,7 +10,7 @@ use Rattle.cel_text.specs.Table.{Words, word}
 use Rattle.cel_policy.specs.Names.{same, spelling}
 use Rattle.cel_policy.specs.Policy.{Span}
 use Rattle.cel_policy.specs.Mapping.{Nodes, childless, ◌▹◌∶◌, lookup}
-use Rattle.cel_policy.specs.Laws.Counts.{sizes}
+use Rattle.cel_policy.specs.Sizes.{sizes}
 use Rattle.ast_mapping.specs.View.{node_at, children, Held}
 use Rattle.ast_mapping.specs.Steps.{found_as, FoundIf, Looked}
 use Rattle.ast_mapping.specs.declared.row.Found.{Found}

@@ -11,11 +11,12 @@ use Rattle.cel_text.specs.Tree.{Kind, array, opener, closer, Key, unkeyed, key, 
 use Rattle.cel_text.specs.Grammar.{Named, nameless, with_name, Head, array_head, object_head, function_head, Label, in_array, in_function, in_object, Value, a_string, a_container, no_child, one_more}
 use Rattle.cel_text.specs.Table.{Words, row, rows_of, rows_all, rows, row_words, key_from, key_to, kind_number, word}
 use Rattle.cel_text.specs.Reading.{read, accepted, limits, max_nodes}
-use Rattle.cel_text.specs.Laws.Sound.{sound, within}
-use Rattle.cel_text.specs.Laws.Table.{length-rows_of, length-rows_all}
+use Rattle.cel_text.proofs.Laws.Sound.{sound, within}
+use Rattle.cel_text.proofs.Laws.Table.{length-rows_of, length-rows_all}
 use Rattle.cel_policy.specs.Mapping.{key_bytes, node_of, nodes_of}
-use Rattle.cel_policy.specs.Laws.Places.{Here, here-left, here-right}
-use Rattle.cel_policy.specs.Laws.Counts.{sizes, size-node_of}
+use Rattle.cel_policy.proofs.Laws.Places.{Here, here-left, here-right}
+use Rattle.cel_policy.specs.Sizes.{sizes}
+use Rattle.cel_policy.proofs.Laws.Counts.{size-node_of}
 use Rattle.ast_mapping.specs.View.{node_at, number, Stands, StandAll, Held}
 use Rattle.ast_mapping.proofs.View.{read_back, held}
 

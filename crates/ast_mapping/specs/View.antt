@@ -8,7 +8,7 @@ use Rattle.cel_text.specs.Table.{Words, row_words, word, string_kind, kind_numbe
 use Rattle.cel_policy.specs.Policy.{Span}
 use Rattle.cel_policy.specs.Mapping.{Node, leaf, branch, Nodes, childless, ◌▹◌∶◌, Typed}
 use Rattle.parser.specs.Kinds.{kind_of}
-use Rattle.cel_policy.specs.Laws.Counts.{size, sizes}
+use Rattle.cel_policy.specs.Sizes.{size, sizes}
 
 -- a string's content, as its row has it
 abbrev pub span_of : Words → ℕ → Span

@@ -94,6 +94,7 @@ fn still(so: bool, x: u8, y: u8) -> bool
 }
 
 // Whether these bytes are the name with this number. The number 0, and those past 16, name nothing.
+#[tactic(auto, unfolding(cel_policy::specs::Names::spelling))]
 pub(crate) fn is_name(part: &[u8], name: u32) -> bool
     ensures { result ≡ same part.now (spelling name) }
 {

@@ -1,8 +1,9 @@
 pub mod Names
 pub mod Policy
 pub mod Mapping
+pub mod Sizes
 pub mod Meaning
 pub mod Spans
+pub mod Inside
 pub mod Printed
 pub mod Answers
-pub mod Laws

@@ -1,5 +1,5 @@
 // What a tree means: names, the mapping to a policy, the printed text, and the answers of the entries that read and print policies.
-// Definitions in specs/, and what is true of them in specs/Laws/: the crates above cite these definitions in their contracts. The only code here
+// Definitions in specs/, and what is true of them in proofs/Laws/: the crates above cite these definitions in their contracts. The only code here
 // is a policy's numbers.
 #![tactic(auto)]
 

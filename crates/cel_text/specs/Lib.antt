@@ -3,6 +3,6 @@ pub mod Tree
 pub mod Abstract
 pub mod Grammar
 pub mod Reading
+pub mod Resume
 pub mod Table
 pub mod Answer
-pub mod Laws

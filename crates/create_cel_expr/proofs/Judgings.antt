@@ -10,8 +10,9 @@ use Rattle.cel_policy.specs.Policy.{Counted, string_count, strings}
 use Rattle.cel_policy.specs.Printed.{printed, shaped, max_response_only}
 use Rattle.cel_policy.specs.Answers.{placed, span_fits, bytes_fit, any_byte, first_fault, Judgement, clean, faulty, unless_faulty, judgement}
 use Rattle.cel_policy.specs.Answers.{unprinted, unless_judged, sized, find_print, PrintAnswer, print_answered, print_answer, print_output}
-use Rattle.cel_policy.specs.Laws.SpanTable.{Faultless, clean-faultless}
-use Rattle.cel_policy.specs.Laws.Judging.{SpansInside, faultless-inside, shaped-few, SmallPlace, judgement-small, then_judged, judgement-any, judgement-then}
+use Rattle.cel_policy.proofs.Laws.SpanTable.{Faultless, clean-faultless}
+use Rattle.cel_policy.specs.Inside.{SpansInside}
+use Rattle.cel_policy.proofs.Laws.Judging.{faultless-inside, shaped-few, SmallPlace, judgement-small, then_judged, judgement-any, judgement-then}
 use Rattle.create_cel_expr.specs.declared.Judged.{Judged}
 use Rattle.create_cel_expr.specs.declared.Judged.TheVariants.{Clean, Faulty}
 use Rattle.create_cel_expr.specs.Judged.{judged_as, Judges, printing}

@@ -12,8 +12,8 @@ use Rattle.cel_text.specs.Table.{Words}
 use Rattle.cel_policy.specs.Policy.{Counted, string_count, content}
 use Rattle.cel_policy.specs.Spans.{span_at}
 use Rattle.cel_policy.specs.Printed.{joined, list_text, total, list_length}
-use Rattle.cel_policy.specs.Laws.SpanTable.{length-spans_at}
-use Rattle.cel_policy.specs.Laws.Judging.{SpanInside, SpansInside}
+use Rattle.cel_policy.proofs.Laws.SpanTable.{length-spans_at}
+use Rattle.cel_policy.specs.Inside.{SpanInside, SpansInside}
 use Rattle.pieces.specs.Pieces.{Wrote, Fits}
 use Rattle.pieces.specs.Laws.{wrote_none, wrote_as, wrote_then, fits-as}
 use Rattle.create_cel_expr.specs.Given.{strings_at, word_size}

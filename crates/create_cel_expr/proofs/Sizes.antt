@@ -11,8 +11,8 @@ use Rattle.cel_text.specs.Answer.{max_text}
 use Rattle.cel_policy.specs.Policy.{Policy, skip, response_only, exclusions}
 use Rattle.cel_policy.specs.Printed.{list_length, list_key, skip_text, response_only_text, full_text, printed, printed_length}
 use Rattle.cel_policy.specs.Answers.{Printing, unprinted, sized, PrintAnswer, print_answered, output}
-use Rattle.cel_policy.specs.Laws.Lengths.{length-printed}
-use Rattle.cel_policy.specs.Laws.Entries.{sized-fits, sized-long, sized-short}
+use Rattle.cel_policy.proofs.Laws.Lengths.{length-printed}
+use Rattle.cel_policy.proofs.Laws.Entries.{sized-fits, sized-long, sized-short}
 use Rattle.pieces.specs.Pieces.{Wrote, Fits}
 use Rattle.pieces.specs.Laws.{wrote-whole}
 

@@ -3,7 +3,7 @@ ghost use Rattle.std.specs.Prelude.{◌≡◌, ◌≤◌};
 ghost use Rattle.cel_policy.specs.Policy.{numbers};
 ghost use Rattle.cel_policy.specs.Printed.{shaped, max_response_only};
 ghost use Rattle.cel_policy.specs.Answers.{span_fits, bytes_fit, any_byte, first_fault, clean, unless_faulty, judgement};
-ghost use Rattle.cel_policy.specs.Laws.Judging.{SpanInside, SpansInside};
+ghost use Rattle.cel_policy.specs.Inside.{SpanInside, SpansInside};
 ghost use Rattle.parser.specs.Set.{string_set};
 ghost use Rattle.create_cel_expr.specs.Judged.{judged_as};
 

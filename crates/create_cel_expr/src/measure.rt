@@ -2,7 +2,7 @@
 ghost use Rattle.std.specs.Prelude.{◌≡◌, ◌+◌, ◌*◌, ◌≤◌};
 ghost use Rattle.cel_policy.specs.Policy.{string_count, numbers};
 ghost use Rattle.cel_policy.specs.Printed.{total, list_length, printed_length, max_response_only};
-ghost use Rattle.cel_policy.specs.Laws.Judging.{SpansInside};
+ghost use Rattle.cel_policy.specs.Inside.{SpansInside};
 ghost use Rattle.create_cel_expr.specs.Given.{strings_at, policy_of, word_size};
 
 use crate::span;

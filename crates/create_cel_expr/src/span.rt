@@ -2,7 +2,7 @@
 ghost use Rattle.std.specs.Prelude.{◌≡◌, suc, ◌+◌, ◌*◌, ◌<◌, length};
 ghost use Rattle.cel_policy.specs.Policy.{content, string_count, numbers};
 ghost use Rattle.cel_policy.specs.Spans.{span_at};
-ghost use Rattle.cel_policy.specs.Laws.Judging.{SpanInside};
+ghost use Rattle.cel_policy.specs.Inside.{SpanInside};
 
 use cel_policy::Policy;
 

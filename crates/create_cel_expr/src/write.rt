@@ -4,7 +4,7 @@ ghost use Rattle.cel_text.specs.Byte.{bytes};
 ghost use Rattle.cel_policy.specs.Policy.{content, string_count, numbers};
 ghost use Rattle.cel_policy.specs.Spans.{span_at};
 ghost use Rattle.cel_policy.specs.Printed.{list_text, list_key, request_text, response_text, skip_text, response_only_text, full_text, printed};
-ghost use Rattle.cel_policy.specs.Laws.Judging.{SpanInside, SpansInside};
+ghost use Rattle.cel_policy.specs.Inside.{SpanInside, SpansInside};
 ghost use Rattle.pieces.specs.Pieces.{Wrote, Fits};
 ghost use Rattle.create_cel_expr.specs.Given.{policy_of, strings_at};
 

@@ -11,10 +11,10 @@ use Rattle.cel_policy.specs.Spans.{span_words}
 use Rattle.cel_policy.specs.Answers.{FoundPolicy, policy, unmapped, unread, find_policy, PolicyAnswer, policy_answered, policy_answer, spans_held, policy_spans_over}
 use Rattle.cel_policy.specs.Answers.{any_byte, Printing, written, unprinted, find_print, PrintAnswer, print_answered, print_answer, output, print_output}
 use Rattle.cel_policy.specs.Answers.{reprinted, find_canonical, one_number, refusal_base, canonical_answer, canonical_output}
-use Rattle.cel_policy.specs.Laws.Readable.{readable}
-use Rattle.cel_policy.specs.Laws.SpanTable.{print-read}
-use Rattle.cel_policy.specs.Laws.Judging.{print-read-any}
-use Rattle.cel_policy.specs.Laws.Refusals.{Gives, OfPrint, print-gives, find_policy-cases, fault_number-range, refusal-range, policy-refusals}
+use Rattle.cel_policy.proofs.Laws.Readable.{readable}
+use Rattle.cel_policy.proofs.Laws.SpanTable.{print-read}
+use Rattle.cel_policy.proofs.Laws.Judging.{print-read-any}
+use Rattle.cel_policy.proofs.Laws.Refusals.{Gives, OfPrint, print-gives, find_policy-cases, fault_number-range, refusal-range, policy-refusals}
 
 -- the host's tables
 abbrev pub nodes_lent : Words

@@ -6,7 +6,7 @@ use Rattle.io.specs.Digits.{hex_digit_ascii}
 use Rattle.cel_text.specs.Byte.{Text, over, byte}
 use Rattle.lines.specs.Texts.{numeral, pair}
 use Rattle.lines.specs.Laws.{AllDigits, numeral-digits}
-use Rattle.cel_text.specs.Laws.Class.{run-append}
+use Rattle.cel_text.proofs.Laws.Class.{run-append}
 use Rattle.page.specs.Page.{plain, shown_byte, said_byte, shown, said, legible_byte, Legible}
 
 -- two texts, of which one is chosen

@@ -6,8 +6,8 @@ use Rattle.cel_text.specs.Byte.{Text, ascii, lead}
 use Rattle.cel_text.specs.Tree.{Tree, nodes, unkeyed}
 use Rattle.cel_text.specs.Reading.{Fault, syntax, too_deep, too_many, root, read, limits, max_depth}
 use Rattle.cel_text.specs.Table.{Words, rows, Left, cleared, hold_over, nodes_left, node_words}
-use Rattle.cel_text.specs.Laws.Table.{length-rows_of}
-use Rattle.cel_text.specs.Laws.Find.{find-passes}
+use Rattle.cel_text.proofs.Laws.Table.{length-rows_of}
+use Rattle.cel_text.proofs.Laws.Find.{find-passes}
 use Rattle.cel_text.specs.Answer.{Found, tree, fault, found, find_tree, nodes_after, refused_at, tree_answer, tree_table, tree_over, fault_number, max_text}
 use Rattle.parser.specs.Set.{string_set}
 use Rattle.parser.specs.declared.Step.{Step}

@@ -3,7 +3,7 @@
 use Rattle.std.proofs.Common.{◌≡◌, ℕ, zero, suc, ◌<◌, Bool, true, false, cond, not, ◌&&◌, ◌||◌, eqb, leb, sym, refl, subst, ⊎_elim, le_of_suc-le-suc, not-suc-le-zero, eq-or-lt_of_le, arith, ne_eqb}
 use lib.Bits.{bit_or}
 use Rattle.cel_text.specs.Byte.{blank, alphanumeric, ident_byte, string_byte}
-use Rattle.cel_text.specs.Laws.Class.{both_true}
+use Rattle.cel_text.proofs.Laws.Class.{both_true}
 use Rattle.parser.specs.Set.{string_set}
 use Rattle.parser.specs.Run.{letter, digit}
 

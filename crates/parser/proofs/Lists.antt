@@ -7,7 +7,7 @@ use Rattle.cel_text.specs.Tree.{Kind, array, object, function, closer, Key, key,
 use Rattle.cel_text.specs.Reading.{Stack, inside, Frame, value, entry, State, before, begun, after, Step, go, refuse, syntax, child, fresh, past, limits, max_nodes, with_key}
 use Rattle.cel_text.specs.Table.{Words, kind_number, rows_all, row_words}
 use Rattle.cel_text.specs.Answer.{fault_number}
-use Rattle.cel_text.specs.Laws.Run.{whole-resumes}
+use Rattle.cel_text.proofs.Laws.Run.{whole-resumes}
 use Rattle.parser.specs.Set.{string_set}
 use Rattle.parser.specs.declared.Read.{Read}
 use Rattle.parser.specs.declared.value.Key.{Key as Found}

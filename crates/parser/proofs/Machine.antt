@@ -6,7 +6,7 @@ use Rattle.cel_text.specs.Tree.{Kind, array, object, function, opener, closer, s
 use Rattle.cel_text.specs.Reading.{Stack, Frame, Due, value, entry, State, before, naming, named, quoted, dropping, begun, after, Step, go, refuse, syntax, refused, child, whole, closed, past, bare}
 use Rattle.cel_text.specs.Reading.{start, unquote, step, follow, run, limits}
 use Rattle.cel_text.specs.Table.{kind_number}
-use Rattle.cel_text.specs.Laws.Class.{closer-comma, closer-closer}
+use Rattle.cel_text.proofs.Laws.Class.{closer-comma, closer-closer}
 use Rattle.parser.specs.Set.{string_set}
 use Rattle.parser.specs.Run.{end_of, NamedAt}
 use Rattle.parser.specs.Kinds.{opener_kind, opens}

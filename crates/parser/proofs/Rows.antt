@@ -4,7 +4,7 @@ use lib.ListN.{replicate-append-replicate}
 use lib.Seq.{sets, set_comm}
 use Rattle.cel_text.specs.Tree.{Kind, Key, Tree, string, container, Trees, ◌▸◌∶◌, nodes_all, count}
 use Rattle.cel_text.specs.Table.{Words, rows_of, rows_all, kind_number, key_from, key_to, string_kind, row_words}
-pub use Rattle.cel_text.specs.Laws.Table.{length-rows_of, length-rows_all}
+pub use Rattle.cel_text.proofs.Laws.Table.{length-rows_of, length-rows_all}
 pub use Rattle.pieces.specs.Laws.{sets-append}
 
 set-sets : (vs l : Words) (i j a : ℕ) → j < i → set (sets l i vs) j a ≡ sets (set l j a) i vs

@@ -5,10 +5,10 @@ use borrow.Author.Tests.{eqb-false}
 use borrow.Table.Steps.{cases}
 use Rattle.cel_text.specs.Byte.{Text, blank, ident_byte, quote}
 use Rattle.cel_text.specs.Tree.{array, object, function, opener, Tree, string, container, nodes_all}
-use Rattle.cel_text.specs.Reading.{Stack, inside, level, opened, value, State, before, quoted, begun, Step, syntax, too_deep, too_many, refused, fresh, enter, enter_string, limits, max_depth, max_nodes}
+use Rattle.cel_text.specs.Reading.{Stack, level, opened, value, State, before, quoted, begun, Step, syntax, too_deep, too_many, refused, fresh, enter, enter_string, limits, max_depth, max_nodes}
 use Rattle.cel_text.specs.Table.{Words, string_kind, kind_number, row_words}
 use Rattle.cel_text.specs.Answer.{fault_number}
-use Rattle.cel_text.specs.Laws.Run.{whole-resumes}
+use Rattle.cel_text.proofs.Laws.Run.{whole-resumes}
 use Rattle.parser.specs.Set.{string_set}
 use Rattle.parser.specs.declared.Read.{Read}
 use Rattle.parser.specs.Run.{end_of, NamedAt}

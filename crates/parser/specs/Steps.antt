@@ -7,7 +7,7 @@ use Rattle.cel_text.specs.Tree.{Kind, Key, unkeyed, Tree, Trees, container, node
 use Rattle.cel_text.specs.Reading.{Stack, inside, Frame, level, opened, State, before, value, quoted, begun, child, fresh, Fault, Outcome, refused, follow, refuse, go, run, limits, max_depth, max_nodes}
 use Rattle.cel_text.specs.Table.{Words, rows_of, rows_all, string_kind, kind_number, key_from, key_to, row_words, node_words}
 use Rattle.cel_text.specs.Answer.{fault_number, max_text}
-use Rattle.cel_text.specs.Laws.Run.{resume}
+use Rattle.cel_text.specs.Resume.{resume}
 use Rattle.parser.specs.Set.{string_set}
 use Rattle.parser.specs.declared.Read.{Read}
 use Rattle.parser.specs.declared.Step.{Step}

@@ -15,7 +15,7 @@ use Rattle.cel_text.specs.Table.{Words}
 use Rattle.cel_policy.specs.Policy.{Span}
 use Rattle.cel_policy.specs.Spans.{span_at, spans_at}
 use Rattle.lines.specs.Fields.{part_from, part_end}
-use Rattle.cel_text.specs.Laws.Part.{part_slice}
+use Rattle.cel_text.proofs.Laws.Part.{part_slice}
 use Rattle.report.specs.Words.{part}
 use Rattle.report.specs.Policy.{string_text, strings_text}
 

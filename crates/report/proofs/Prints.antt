@@ -9,7 +9,7 @@ use Rattle.cel_text.specs.Byte.{Text, bytes}
 use Rattle.cel_text.specs.Table.{Words, node_words}
 use Rattle.cel_policy.specs.Spans.{span_words}
 use Rattle.cel_policy.specs.Answers.{PolicyAnswer, policy_answer, policy_nodes, policy_spans, Printing, written, unprinted, print_answered, output}
-use Rattle.cel_policy.specs.Laws.Refusals.{Gives, OfPrint}
+use Rattle.cel_policy.proofs.Laws.Refusals.{Gives, OfPrint}
 use Rattle.page.specs.Page.{shown, said}
 use Rattle.report.specs.Policy.{canonical_lines}
 use Rattle.report.specs.Report.{answer_text, nodes_lent, spans_lent, reported}

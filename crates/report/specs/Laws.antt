@@ -10,8 +10,8 @@ use Rattle.cel_policy.specs.Names.{spelling, spellings}
 use Rattle.cel_policy.specs.Policy.{Span, Counted, skip, full}
 use Rattle.cel_policy.specs.Spans.{spans_at, span_words}
 use Rattle.cel_policy.specs.Answers.{Printing, written, unprinted, find_print, all_of, PolicyAnswer, policy_answer, policy_nodes, policy_spans}
-use Rattle.cel_text.specs.Laws.Class.{run-append}
-use Rattle.cel_policy.specs.Laws.Each.{each-get_d, each_of, run-of}
+use Rattle.cel_text.proofs.Laws.Class.{run-append}
+use Rattle.cel_policy.proofs.Laws.Each.{each-get_d, each_of, run-of}
 use Rattle.page.specs.Page.{legible_byte, Legible}
 use Rattle.page.specs.Laws.{legible-cond, shown-legible, said-legible, spaces-legible}
 use Rattle.report.specs.declared.window.Side.{Side}

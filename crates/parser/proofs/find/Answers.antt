@@ -18,6 +18,6 @@ returns-then-plain-text c =
 pub returns : goal.returns
 returns c =
     let a = c.args in
-    find-value a.text.now a.table-1.now c.cel_value.new.1.0 c.ascii_end-plain.result.0
+    find-value a.text.now a.table.now c.cel_value.new.table c.ascii_end-plain.result.0
     c.if-text-gt-MAX_TEXT.false c.ascii_end-plain.ensures c.if-plain-text.false
     c.cel_value.result c.cel_value.ensures

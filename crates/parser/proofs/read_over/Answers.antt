@@ -12,34 +12,34 @@ pub returns-then-table-lt-NODE_WORDS : goal.returns-then-table-lt-NODE_WORDS
 returns-then-table-lt-NODE_WORDS c =
     let a = c.args in
     let h = c.if-table-lt-NODE_WORDS.true in
-    (c.too_short.ensures ∙ answer-short a.text.now (length a.table-1.now) h, over-short a.text.now a.table-1.now h)
+    record { answer = c.too_short.ensures ∙ answer-short a.text.now (length a.table.now) h; table = over-short a.text.now a.table.now h }
 
 pub slice_bounds-find-end-2 : goal.slice_bounds-find-end-2
-slice_bounds-find-end-2 c = sym (length-take-le node_words c.args.table-1.now c.if-table-lt-NODE_WORDS.false)
+slice_bounds-find-end-2 c = sym (length-take-le node_words c.args.table.now c.if-table-lt-NODE_WORDS.false)
 
 pub find-step-requires : goal.find-step-requires
-find-step-requires c = length-take-le node_words c.args.table-1.now c.if-table-lt-NODE_WORDS.false
+find-step-requires c = length-take-le node_words c.args.table.now c.if-table-lt-NODE_WORDS.false
 
 pub answer_of-answer-requires : goal.answer_of-answer-requires
 answer_of-answer-requires c = small _ _ _ c.find-step.result c.find-step.ensures
 
 pub slice_bounds-clear-end-2 : goal.slice_bounds-clear-end-2
 slice_bounds-clear-end-2 c =
-    let w = c.args.table-1.now in
-    let w' = c.find-step.new.1.0 in
-    let long : length (w' ++ drop node_words w) ≡ length w = length_front w w' node_words c.find-step.auto.1.0 in
+    let w = c.args.table.now in
+    let w' = c.find-step.new.table in
+    let long : length (w' ++ drop node_words w) ≡ length w = length_front w w' node_words c.find-step.auto.table in
     let room : node_words ≤ length (w' ++ drop node_words w) = omega (arith, c.if-table-lt-NODE_WORDS.false) in
     sym (length-take-le node_words (w' ++ drop node_words w) room)
 
 pub returns : goal.returns
 returns c =
     let x = c.args.text.now in
-    let w = c.args.table-1.now in
+    let w = c.args.table.now in
     let h = c.if-table-lt-NODE_WORDS.false in
     let f = c.find-step in
     let a = c.answer_of-answer.ensures in
-    let e = c.stale.ensures ∙ ap (λ (r : Answer). stale_from (nodes_left r.refusal)) a in (
-      a ∙ find-answer x w h f.new.1.0 f.result f.ensures,
-      find-over x w h f.new.1.0 f.result f.ensures f.auto.1.0 _ e c.clear.new.0
-          c.clear.ensures,
-    )
+    let e = c.stale.ensures ∙ ap (λ (r : Answer). stale_from (nodes_left r.refusal)) a in
+    record {
+      answer = a ∙ find-answer x w h f.new.table f.result f.ensures;
+      table = find-over x w h f.new.table f.result f.ensures f.auto.table _ e c.clear.new.table c.clear.ensures;
+    }

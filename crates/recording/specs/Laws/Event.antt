@@ -7,7 +7,7 @@ use Rattle.std.proofs.lemmas.Bool.{eqb-false}
 use borrow.Table.Steps.{cases}
 use Rattle.cel_text.specs.Byte.{Text}
 use Rattle.cel_text.specs.Answer.{max_text}
-use Rattle.cel_text.specs.Laws.Class.{by-test}
+use Rattle.cel_text.proofs.Laws.Class.{by-test}
 use Rattle.cel_policy.specs.Answers.{policy_answer}
 use Rattle.groups.specs.declared.Number.{Number}
 use Rattle.groups.specs.declared.Number.TheVariants.{Whole, Cut, Padded, TooMany}

@@ -1,7 +1,7 @@
 -- `judge::first_odd` meets its contract: at each turn the search from here on finds what the whole search finds. Assumes nothing.
 use mathlib.Core.Path.{subst}
 use native.Mathlib.Nat.{zero-add, sub-zero}
-use Rattle.cel_policy.specs.Laws.Judging.{SpanInside}
+use Rattle.cel_policy.specs.Inside.{SpanInside}
 use Rattle.parser.specs.Set.{string_set}
 use Prim.Native.Nat.{◌-◌}
 use Rattle.cel_policy.specs.Answers.{bytes_fit}

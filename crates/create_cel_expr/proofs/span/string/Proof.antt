@@ -1,7 +1,7 @@
 -- `span::string` meets its contract: the part of the text that the span marks. Assumes nothing.
 use lib.Seq.{slice}
 use mathlib.Core.Path.{◌∙◌}
-use Rattle.cel_text.specs.Laws.Part.{part_slice}
+use Rattle.cel_text.proofs.Laws.Part.{part_slice}
 use borrow.Author.Rules.{rules}
 use Rattle.create_cel_expr.proofs.span.string.Statement.{statement}
 use Rattle.create_cel_expr.proofs.span.string.Tie as tie

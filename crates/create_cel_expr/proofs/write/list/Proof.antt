@@ -6,7 +6,7 @@ use mathlib.Core.Path.{subst}
 use Prim.Native.Nat.{◌-◌, ◌≤◌}
 use native.Mathlib.Nat.{add-zero}
 use lib.Dec.{lit≤}
-use Rattle.cel_policy.specs.Laws.Judging.{SpanInside}
+use Rattle.cel_policy.specs.Inside.{SpanInside}
 use Rattle.create_cel_expr.proofs.write.list.Statement.{statement}
 use Rattle.create_cel_expr.proofs.write.list.Tie as tie
 use borrow.Author.Rules.{rules}

@@ -1,6 +1,6 @@
 -- `row::clear` meets its contract: the words passed are 0, and those before `from` are as they were. Assumes nothing.
-use Rattle.std.proofs.Common.{◌-◌, length, arith, length-set}
-use Rattle.parser.proofs.Rows.{Cleared, cleared-none, cleared_more, cleared-all}
+use Rattle.std.proofs.Common.{◌-◌, length}
+use Rattle.parser.proofs.Rows.{Cleared}
 use Rattle.parser.proofs.row.clear.Given as goal
 
 abbrev pub invariant-loop-i : goal.invariant-loop-i

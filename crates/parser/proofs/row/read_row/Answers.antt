@@ -1,8 +1,8 @@
 -- `row::read_row` meets its contract: a whole row is there exactly where its number is below the number of whole rows. Assumes nothing.
-use Rattle.std.proofs.Common.{suc, ◌+◌, ◌*◌, ◌<◌, ◌≤◌, length, ◌∙◌, add-zero, arith}
+use Rattle.std.proofs.Common.{suc, ◌*◌, ◌<◌, ◌≤◌, length, ◌∙◌, add-zero, arith}
 use borrow.Author.Tests.{lt-leb}
 use Rattle.cel_text.specs.Table.{row_words}
-use Rattle.cel_text.specs.Laws.Table.{row_inside}
+use Rattle.cel_text.proofs.Laws.Table.{row_inside}
 use Rattle.parser.proofs.row.read_row.Goals as goal
 
 pub returns-then-table-node : goal.returns-then-table-node
@@ -11,21 +11,6 @@ returns-then-table-node c =
     let w = c.args.table.now in
     let less : length w < row_words * suc n = omega arith in
     c.no_row.ensures ∙ rw (lt-leb (row_words * suc n) (length w) less)
-
-pub overflow_cast-result : goal.overflow_cast-result
-overflow_cast-result c = omega (arith, c.shared_slice_known-3-1.given (row_words * c.args.node.0 + 1))
-
-pub overflow_cast-result-2 : goal.overflow_cast-result-2
-overflow_cast-result-2 c = omega (arith, c.shared_slice_known-4-1.given (row_words * c.args.node.0 + 2))
-
-pub overflow_cast-result-3 : goal.overflow_cast-result-3
-overflow_cast-result-3 c = omega (arith, c.shared_slice_known-5-1.given (row_words * c.args.node.0 + 3))
-
-pub overflow_cast-result-4 : goal.overflow_cast-result-4
-overflow_cast-result-4 c = omega (arith, c.shared_slice_known-6-1.given (row_words * c.args.node.0 + 4))
-
-pub overflow_cast-result-5 : goal.overflow_cast-result-5
-overflow_cast-result-5 c = omega (arith, c.shared_slice_known-9-1.given (row_words * c.args.node.0 + 7))
 
 pub returns : goal.returns
 returns c =

@@ -1,6 +1,5 @@
 -- `scan::blank_run` meets its contract: the run from `at` ends where the run from i does, for each place i passed. Assumes nothing.
-use Rattle.std.proofs.Common.{◌≡◌, ◌-◌, length, sym, refl, ap, ◌∙◌, add-one, arith}
-use borrow.Author.Tests.{not-true, not-false}
+use Rattle.std.proofs.Common.{sym, ap, ◌∙◌, add-one, arith}
 use Rattle.cel_text.specs.Byte.{blank}
 use Rattle.parser.specs.Run.{end_of}
 use Rattle.parser.proofs.Runs.{end_none, end-stop, end_more, end-spaces}

@@ -1,5 +1,5 @@
 -- `scan::greatest` meets its contract: no byte passed is greater. Assumes nothing.
-use Rattle.std.proofs.Common.{ℕ, ◌-◌, ◌<◌, ◌≤◌, length, get_or, arith, below_none, below_more}
+use Rattle.std.proofs.Common.{◌≤◌, get_or, arith, below_none, below_more}
 use Rattle.parser.proofs.scan.greatest.Goals as goal
 
 pub loop-i-init : goal.loop-i-init

@@ -1,5 +1,5 @@
 -- `scan::greatest` meets its contract: no byte passed is greater. Assumes nothing.
-use Rattle.std.proofs.Common.{ℕ, ◌-◌, ◌<◌, ◌≤◌, length, get_or, arith, below_none, below_more}
+use Rattle.std.proofs.Common.{ℕ, ◌-◌, ◌<◌, ◌≤◌, length, get_or}
 use Rattle.parser.proofs.scan.greatest.Given as goal
 
 abbrev pub invariant-loop-i : goal.invariant-loop-i

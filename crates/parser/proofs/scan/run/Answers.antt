@@ -1,7 +1,6 @@
 -- `scan::run` meets its contract: the run from `at` ends where the run from i does, for each place i passed. Assumes nothing.
-use Rattle.std.proofs.Common.{◌≡◌, ◌-◌, length, sym, refl, ◌∙◌, add-one, arith}
-use borrow.Author.Tests.{not-true, not-false}
-use Rattle.parser.specs.Run.{class_of, end_of}
+use Rattle.std.proofs.Common.{sym, ◌∙◌, add-one}
+use Rattle.parser.specs.Run.{class_of}
 use Rattle.parser.proofs.Runs.{end_none, end-stop, end_more}
 use Rattle.parser.proofs.scan.run.Goals as goal
 

@@ -1,6 +1,5 @@
 -- `scan::spaces` meets its contract: the eights passed are spaces, and so are those that the last one begins with. Assumes nothing.
-use Rattle.std.proofs.Common.{◌-◌, length, arith}
-use Rattle.parser.specs.Run.{Spaces}
+use Rattle.std.proofs.Common.{arith}
 use Rattle.parser.proofs.Runs.{spaces-none, spaces-more, spaces-eight}
 use Rattle.parser.proofs.scan.spaces.Goals as goal
 

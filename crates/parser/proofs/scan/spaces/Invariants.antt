@@ -1,7 +1,6 @@
 -- `scan::spaces` meets its contract: the eights passed are spaces, and so are those that the last one begins with. Assumes nothing.
-use Rattle.std.proofs.Common.{◌-◌, length, arith}
+use Rattle.std.proofs.Common.{◌-◌, length}
 use Rattle.parser.specs.Run.{Spaces}
-use Rattle.parser.proofs.Runs.{spaces-none, spaces-more, spaces-eight}
 use Rattle.parser.proofs.scan.spaces.Given as goal
 
 abbrev pub invariant-loop-i : goal.invariant-loop-i

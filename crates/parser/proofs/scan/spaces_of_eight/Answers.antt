@@ -6,4 +6,4 @@ pub returns : goal.returns
 returns c =
     let a = c.args in
     let e = c.eight in
-    spaces-told a.text.now a.at.0 e.result c.wrapping_sub_u64-rest.result c.requires e.ensures.1 e.ensures.0 c.wrapping_sub_u64-rest.ensures
+    spaces-told a.text.now a.at.0 e.result c.wrapping_sub_u64-rest.result c.requires e.ensures.bytes_at e.ensures.value c.wrapping_sub_u64-rest.ensures.value

@@ -9,16 +9,13 @@ returns-then-kind-ne-OBJECT c = key-none c.args.text.now c.args.at.0 c.args.kind
 
 pub returns-then-peek-ne58 : goal.returns-then-peek-ne58
 returns-then-peek-ne58 c =
-    
     λ n left. rw c.if-kind-ne-OBJECT.false (no-colon c.trimmed_ident-name.ensures c.requires n left (λ e. c.if-peek-ne58.true (c.peek.ensures ∙ e)))
 
 pub overflow_add-result : goal.overflow_add-result
 overflow_add-result c =
-    
     omega (arith, (name-bounds c.args.text.now c.trimmed_ident-name.ensures c.requires).within)
 
 pub returns : goal.returns
 returns c =
-    
     let n = c.trimmed_ident-name in
     rw c.if-kind-ne-OBJECT.false (key-colon n.ensures c.requires _ refl refl (add-one n.result.end.0) (sym c.peek.ensures ∙ c.if-peek-ne58.false))

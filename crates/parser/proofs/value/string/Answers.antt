@@ -8,7 +8,6 @@ use Rattle.parser.proofs.value.string.Goals as goal
 
 pub returns-then-peek-ne34 : goal.returns-then-peek-ne34
 returns-then-peek-ne34 c =
-    
     let a = c.args in
     let r = c.run_of-to in
     let q = c.run_of-end in
@@ -23,7 +22,6 @@ open_row-requires c =
 
 pub overflow_add-result : goal.overflow_add-result
 overflow_add-result c =
-    
     let a = c.args in
     let r = c.run_of-to in
     let q = c.run_of-end in
@@ -33,7 +31,6 @@ overflow_add-result c =
 
 pub returns : goal.returns
 returns c =
-    
     let a = c.args in
     let r = c.run_of-to in
     let q = c.run_of-end in

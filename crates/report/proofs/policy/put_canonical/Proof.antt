@@ -5,7 +5,7 @@ use Rattle.cel_text.specs.Byte.{string_byte}
 use Rattle.cel_text.specs.Answer.{max_text}
 use Rattle.cel_policy.specs.Policy.{numbers}
 use Rattle.cel_policy.specs.Answers.{PrintAnswer, find_print, print_answer, print_output}
-use Rattle.cel_policy.specs.Laws.Refusals.{print-gives}
+use Rattle.cel_policy.proofs.Laws.Refusals.{print-gives}
 use Rattle.report.proofs.Prints.{text-refused, text-printed}
 use borrow.Author.Rules.{rules}
 use Rattle.report.proofs.policy.put_canonical.Statement.{statement}
