@@ -1,14 +1,7 @@
 -- The search for the first faulty string, from string i on, and the run that a string of string bytes only is. Assumes nothing.
-use mathlib.Core.Path.{◌≡◌, refl, sym, ap, ◌∙◌}
-use mathlib.Core.Option.{Option, none, some}
-use Prim.Native.Nat.{ℕ, suc, ◌+◌, ◌-◌, ◌≤◌, ◌<◌}
-use native.Mathlib.Nat.{zero-add}
-use native.Mathlib.Omega.{arith}
-use mathlib.Core.Bool.{Bool, true, false, cond, not}
-use mathlib.Core.List.{[], ◌∷◌}
-use lib.ListN.{length}
-use lib.Dec.{eqb, eqb-suc-suc, eqb-zero-suc}
-use borrow.Author.Tests.{not-true, not-false}
+use Rattle.std.proofs.Common.{◌≡◌, ℕ, suc, ◌+◌, ◌-◌, ◌<◌, ◌≤◌, Bool, true, false, cond, eqb, [], ◌∷◌, length, sym, refl, ap, ◌∙◌, zero-add, arith}
+use Rattle.std.proofs.Math.Option.{Option, none, some}
+use Rattle.std.proofs.Math.Dec.{eqb-suc-suc, eqb-zero-suc}
 use Rattle.cel_text.specs.Byte.{Text, lead}
 use Rattle.cel_policy.specs.Answers.{first_fault, all_of, Judgement, clean, faulty, unless_faulty}
 use Rattle.parser.specs.Run.{end_of}
@@ -25,16 +18,16 @@ module _ (test : ℕ → Bool) (count : ℕ) where
       ap (λ (k : ℕ). first_fault test k i) m ∙ ap (λ (k : ℕ). cond (test i) (first_fault test (count - (i + 1)) k) (some i)) n
 
   -- string i passes
-  pub search-on : {i : ℕ} {r : Bool} → i < count → r ≡ test i → not r ≡ false → Searched i → Searched (i + 1)
-  search-on {r = r} h e t s = sym (search-next h ∙ rw (sym e ∙ not-false r t)) ∙ s
+  pub search-on : {i : ℕ} {r : Bool} → i < count → r ≡ test i → r ≡ true → Searched i → Searched (i + 1)
+  search-on h e t s = sym (search-next h ∙ rw (sym e ∙ t)) ∙ s
 
   module _ (refusal : ℕ) where
     abbrev fault : Option ℕ → Judgement
     fault o = unless_faulty refusal o clean
 
     -- it does not
-    pub search-found : {i : ℕ} {r : Bool} → i < count → r ≡ test i → not r ≡ true → Searched i → faulty refusal i ≡ fault (first_fault test count 0)
-    search-found {i = i} {r = r} h e t s = let found : first_fault test (count - i) i ≡ some i = search-next h ∙ rw (sym e ∙ not-true r t) in ap fault (sym found ∙ s)
+    pub search-found : {i : ℕ} {r : Bool} → i < count → r ≡ test i → r ≡ false → Searched i → faulty refusal i ≡ fault (first_fault test count 0)
+    search-found {i = i} h e t s = let found : first_fault test (count - i) i ≡ some i = search-next h ∙ rw (sym e ∙ t) in ap fault (sym found ∙ s)
 
     -- all have passed
     pub search-over : {i : ℕ} → count ≤ i → Searched i → clean ≡ fault (first_fault test count 0)

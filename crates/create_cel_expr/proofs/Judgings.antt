@@ -1,9 +1,5 @@
 -- Judging step by step, what is known of what was judged, and printing after it. Assumes nothing.
-use mathlib.Core.Path.{◌≡◌, refl, sym, ap, subst, ◌∙◌}
-use Prim.Native.Nat.{ℕ, ◌≤◌}
-use mathlib.Core.Bool.{Bool, true, false, not}
-use lib.ListN.{length}
-use borrow.Author.Tests.{not-true, not-false}
+use Rattle.std.proofs.Common.{◌≡◌, ℕ, ◌≤◌, Bool, true, false, length, sym, refl, ap, ◌∙◌, subst}
 use Rattle.cel_text.specs.Byte.{Text}
 use Rattle.cel_text.specs.Table.{Words}
 use Rattle.cel_policy.specs.Policy.{Counted, string_count, strings}
@@ -21,14 +17,14 @@ use Rattle.create_cel_expr.proofs.Sizes.{Gave}
 module _ (k : Counted) (ws : Words) (x : Text) where
   -- 20, and 21 after it
   module _ {r : Bool} (e : r ≡ shaped k) where
-    pub judged-20 : not r ≡ true → faulty 20 0 ≡ judgement any_byte k ws x
-    judged-20 t = rw (judgement-any k ws x, sym e ∙ not-true r t)
+    pub judged-20 : r ≡ false → faulty 20 0 ≡ judgement any_byte k ws x
+    judged-20 t = rw (judgement-any k ws x, sym e ∙ t)
 
-    pub judged-few : not r ≡ false → {n : ℕ} → n ≡ string_count k → n ≤ max_response_only
-    judged-few t h = rw h (shaped-few k (sym e ∙ not-false r t))
+    pub judged-few : r ≡ true → {n : ℕ} → n ≡ string_count k → n ≤ max_response_only
+    judged-few t h = rw h (shaped-few k (sym e ∙ t))
 
-    pub judged-21 : not r ≡ false → {n : ℕ} {j : Judgement} → n ≡ string_count k → j ≡ unless_faulty 21 (first_fault (span_fits ws x) n 0) clean → j ≡ judgement any_byte k ws x
-    judged-21 t h f = rw (judgement-any k ws x, sym e ∙ not-false r t) (f ∙ ap (λ (n : ℕ). unless_faulty 21 (first_fault (span_fits ws x) n 0) clean) h)
+    pub judged-21 : r ≡ true → {n : ℕ} {j : Judgement} → n ≡ string_count k → j ≡ unless_faulty 21 (first_fault (span_fits ws x) n 0) clean → j ≡ judgement any_byte k ws x
+    judged-21 t h f = rw (judgement-any k ws x, sym e ∙ t) (f ∙ ap (λ (n : ℕ). unless_faulty 21 (first_fault (span_fits ws x) n 0) clean) h)
 
   -- 22 after both
   abbrev odd : (ℕ → Bool) → ℕ → Judgement

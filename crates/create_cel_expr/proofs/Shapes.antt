@@ -1,10 +1,6 @@
 -- The tests of `shaped`, one after the other. Assumes nothing.
-use mathlib.Core.Path.{◌≡◌, refl}
-use Prim.Native.Nat.{ℕ, ◌+◌, ◌≤◌, ◌<◌}
-use mathlib.Core.Bool.{Bool, true, false, cond, ◌&&◌, ◌||◌}
-use lib.Dec.{eqb, leb}
-use native.Mathlib.Omega.{arith}
-use borrow.Author.Tests.{eq-eqb, ne_eqb, eqb-false}
+use Rattle.std.proofs.Common.{◌≡◌, ℕ, ◌+◌, ◌<◌, ◌≤◌, Bool, true, false, cond, ◌&&◌, ◌||◌, eqb, leb, refl, arith, eq-eqb, ne_eqb}
+use borrow.Author.Tests.{eqb-false}
 use Rattle.cel_policy.specs.Policy.{Counted, string_count, skip, response_only, full, no_list, inclusions, exclusions}
 use Rattle.cel_policy.specs.Printed.{a_kind, shaped, max_response_only, max_full}
 

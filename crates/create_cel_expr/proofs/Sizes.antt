@@ -1,11 +1,5 @@
 -- The length that was measured is the printed text's, and decides what is printed. Assumes nothing.
-use mathlib.Core.Path.{◌≡◌, refl, ap, ◌∙◌}
-use Prim.Native.Nat.{ℕ, ◌+◌, ◌≤◌, ◌<◌}
-use native.Mathlib.Nat.{zero-add}
-use native.Mathlib.Omega.{arith}
-use mathlib.Core.List.{◌++◌}
-use lib.ListN.{length, drop}
-use borrow.Author.Tests.{eq-eqb, ne_eqb}
+use Rattle.std.proofs.Common.{◌≡◌, ℕ, ◌+◌, ◌<◌, ◌≤◌, ◌++◌, length, drop, refl, ap, ◌∙◌, zero-add, arith, eq-eqb, ne_eqb}
 use Rattle.cel_text.specs.Byte.{Text, bytes}
 use Rattle.cel_text.specs.Answer.{max_text}
 use Rattle.cel_policy.specs.Policy.{Policy, skip, response_only, exclusions}

@@ -16,8 +16,9 @@ fn put(out: &mut [u8], at: usize, piece: &[u8]) -> usize
     requires { Fits out.old at piece.now }
     ensures { Wrote out.old out.new at result piece.now }
 {
-    bytes::copy(piece, &mut out[at..]);
-    at + piece.len()
+    let end = at + piece.len();
+    out[at..end].copy_from_slice(piece);
+    end
 }
 
 // String i.

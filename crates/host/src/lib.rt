@@ -29,9 +29,8 @@ pub fn canonicalise(text: &[u8], out: &mut [u8]) -> u32
     printed.length
 }
 
-// The same for a host in C: a pointer and a length for each slice.
-#[unsafe(no_mangle)]
-pub extern "C" fn hilladok_canonicalise(text: &[u8], out: &mut [u8]) -> u32
+// The same for a host in C, under the name that the crate `host_c` exports it by.
+pub fn hilladok_canonicalise(text: &[u8], out: &mut [u8]) -> u32
     ensures answer { result ≡ canonical_answer text.now (length out.old) }
     ensures output { out.new ≡ canonical_output text.now out.old }
 {

@@ -60,8 +60,7 @@ loop-next-preserved-then-is_name c =
     let name = c.args.name in
     rw (r.keyfrom, r.keyto) at (c.is_name.ensures ∙ ap (λ (w : Text). same w (spelling name)) c.part.ensures) in
     let n = c.args.object.0 in
-    rw (add-sub_cancel n 1, entry.past)
-    (hit c.args.table.now c.args.text.now n c.requires c.args.name passed more c.is_name.result keyed c.loop-next.next refl c.if-is_name.true)
+    rw (add-sub_cancel n 1, entry.past) (hit c.args.table.now c.args.text.now n c.requires c.args.name passed more c.is_name.result keyed c.loop-next.next refl c.if-is_name.true)
 
 pub loop-next-smaller : goal.loop-next-smaller
 loop-next-smaller c =

@@ -1,0 +1,41 @@
+-- `canonicalise` meets its contract: what was read, and then what was printed. Assumes nothing.
+use Rattle.host.proofs.Numbers.{read_small, host-unread, print-small, host-printed, host-unprinted}
+use native.Mathlib.Omega.{arith}
+use Rattle.host.proofs.canonicalise.Goals as goal
+
+pub overflow_add-result : goal.overflow_add-result
+overflow_add-result c =
+    let a = c.args in
+    record { fits = omega (arith, read_small a.text.now a.out.now c.read_over-read.ensures.answer) }
+
+pub returns-then-answer-ne0 : goal.returns-then-answer-ne0
+returns-then-answer-ne0 c =
+    let a = c.args in
+    let both = host-unread a.text.now a.out.now c.read_over-read.ensures.answer c.if-answer-ne0.true in
+    record { answer = both.0; output = both.1 }
+
+pub overflow_add-result-then-printed-ne0 : goal.overflow_add-result-then-printed-ne0
+overflow_add-result-then-printed-ne0 c =
+    let a = c.args in
+    let r = c.read_over-read.ensures in
+    let e = c.if-answer-ne0 in
+    let p = c.print_any-printed.ensures in
+    record { fits = omega (arith, print-small a.text.now a.out.now r.answer e.false r.spans p.answer p.output) }
+
+pub returns-then-printed-ne0 : goal.returns-then-printed-ne0
+returns-then-printed-ne0 c =
+    let a = c.args in
+    let r = c.read_over-read.ensures in
+    let e = c.if-answer-ne0 in
+    let p = c.print_any-printed.ensures in
+    let both = host-unprinted a.text.now a.out.now r.answer e.false r.spans p.answer p.output c.if-printed-ne0.true in
+    record { answer = both.0; output = both.1 }
+
+pub returns : goal.returns
+returns c =
+    let a = c.args in
+    let r = c.read_over-read.ensures in
+    let e = c.if-answer-ne0 in
+    let p = c.print_any-printed.ensures in
+    let both = host-printed a.text.now a.out.now r.answer e.false r.spans p.answer p.output c.if-printed-ne0.false in
+    record { answer = both.0; output = both.1 }
