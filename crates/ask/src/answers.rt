@@ -46,7 +46,7 @@ fn number_field(line: &[u8], at: usize, default: usize, most: u32) -> Field
 fn requested(line: &[u8], text: &mut [u8]) -> Asked
     ensures { Fitting (length text.new) result }
 {
-    let first = bytes::scan::find(line, 0, line.len(), b'\t');
+    let first = lines::find(line, 0, line.len(), b'\t');
     let count = lines::unhex(&line[..first], text);
     let Count::Number(n) = count else {
         return Asked::Nothing;

@@ -1,7 +1,9 @@
 // What a request looks like, for a person.
 
-pub(crate) fn put_help() {
+pub(crate) fn put_help(output: &impl Print, errors: &impl Print) {
     crate::say(
+        output,
+        errors,
         b"Usage: ask <REQUESTS\n\
           \n\
           Each line of standard input is a request: a verb, then its fields, with a tab before each. Bytes are\n\

@@ -69,7 +69,7 @@ fn policy_after(line: &[u8], at: usize) -> Given {
 fn requested(line: &[u8], text: &mut [u8], spans: &mut [u32]) -> Asked
     ensures { Fitting (length text.new) (length spans.new) result }
 {
-    let first = bytes::scan::find(line, 0, line.len(), b'\t');
+    let first = lines::find(line, 0, line.len(), b'\t');
     let count = lines::unhex(&line[..first], text);
     let Count::Number(n) = count else {
         return Asked::Nothing;

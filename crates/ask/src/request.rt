@@ -4,23 +4,22 @@ ghost use Rattle.lines.specs.Input.{Inside};
 
 use crate::write::put_bad;
 use crate::{answers, prints, reports, verdicts};
-use check::same;
 use lines::Line;
 
 // The answer to the fields of a request.
 fn answer_verb(verb: &[u8], fields: &[u8], out: &mut [u8]) -> usize
     ensures { result ≤ length out.new }
 {
-    if same(verb, b"answers") {
+    if verb == b"answers" {
         return answers::answer(fields, out);
     }
-    if same(verb, b"prints") {
+    if verb == b"prints" {
         return prints::answer(fields, out);
     }
-    if same(verb, b"verdicts") {
+    if verb == b"verdicts" {
         return verdicts::answer(fields, out);
     }
-    if same(verb, b"reports") {
+    if verb == b"reports" {
         return reports::answer(fields, out);
     }
     put_bad(out)
@@ -30,7 +29,7 @@ fn answer_verb(verb: &[u8], fields: &[u8], out: &mut [u8]) -> usize
 fn answer(line: &[u8], out: &mut [u8]) -> usize
     ensures { result ≤ length out.new }
 {
-    let end = bytes::scan::find(line, 0, line.len(), b'\t');
+    let end = lines::find(line, 0, line.len(), b'\t');
     if end == line.len() {
         return put_bad(out);
     }

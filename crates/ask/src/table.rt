@@ -17,7 +17,7 @@ fn word_from(field: &[u8], from: usize) -> Word
     requires { from ≤ length field.now }
     ensures { EndsWithin (length field.now) result }
 {
-    let end = bytes::scan::find(field, from, field.len(), b',');
+    let end = lines::find(field, from, field.len(), b',');
     let count = lines::decimal(&field[from..end], u32::MAX);
     let Count::Number(w) = count else {
         return Word::Wrong;
@@ -57,7 +57,7 @@ pub(crate) fn words_after(line: &[u8], at: usize, table: &mut [u32]) -> Field
         return Field::Wrong;
     }
     let from = at + 1;
-    let end = bytes::scan::find(line, from, line.len(), b'\t');
+    let end = lines::find(line, from, line.len(), b'\t');
     let count = words(&line[from..end], table);
     let Count::Number(n) = count else {
         return Field::Wrong;

@@ -15,7 +15,7 @@ fn put_word(out: &mut [u8], at: usize, line: &[u8], number: u32) -> usize
     ensures { result ≤ length out.new }
 {
     let from = lines::part_start(line, number, b'|');
-    let to = bytes::scan::find(line, from, line.len(), b'|');
+    let to = lines::find(line, from, line.len(), b'|');
     put_part(out, at, line, from, to)
 }
 

@@ -1,15 +1,10 @@
 // The bytes of a text, from a file or from standard input.
-ghost use Rattle.std.specs.Prelude.{suc, ◌≤◌, length, ◌≡◌};
+ghost use Rattle.std.specs.Prelude.{suc, ◌≤◌, length, ◌≡◌, IfOk};
 ghost use Rattle.cel_text.specs.Answer.{max_text};
 
 use parser::MAX_TEXT;
-
-// How many bytes are held, and whether a read failed.
-#[derive(Clone, Copy)]
-pub(crate) struct Held {
-    pub bytes: usize,
-    pub failed: bool,
-}
+use std::io;
+use std::io::Read;
 
 // The longest text and one byte more, which tells that a text is longer.
 const ROOM: usize = MAX_TEXT + 1;
@@ -22,32 +17,25 @@ pub(crate) fn text_room() -> [u8; ROOM]
 }
 
 // One read after the bytes held; at the end of the input no more are held than before.
-fn read_more(fd: i32, room: &mut [u8], held: usize) -> Held
+fn read_more<R: Read>(reader: &mut R, room: &mut [u8], held: usize) -> io::Result<usize>
     requires { held ≤ length room.old }
-    ensures { (held ≤ result.bytes) × (result.bytes ≤ length room.new) }
+    ensures { IfOk result (λ n. (held ≤ n) × (n ≤ length room.new)) }
 {
-    let part = &mut room[held..];
-    let got = libc::read(fd, part);
-    Held {
-        bytes: held + io::count(got, part),
-        failed: got < 0,
-    }
+    let got = reader.read(&mut room[held..])?;
+    Ok(held + got)
 }
 
-// Reads until the room is full, the input ends or a read fails.
-pub(crate) fn read_text(fd: i32, room: &mut [u8]) -> Held
-    ensures { result.bytes ≤ length room.new }
+// Reads until the room is full, the input ends or a read fails, and answers how many bytes are held.
+pub(crate) fn read_text<R: Read>(reader: &mut R, room: &mut [u8]) -> io::Result<usize>
+    ensures { IfOk result (λ n. n ≤ length room.new) }
 {
     let mut held = 0;
     while held < room.len() {
-        let next = read_more(fd, room, held);
-        if next.bytes == held {
-            return next;
+        let next = read_more(reader, room, held)?;
+        if next == held {
+            return Ok(held);
         }
-        held = next.bytes;
+        held = next;
     }
-    Held {
-        bytes: held,
-        failed: false,
-    }
+    Ok(held)
 }

@@ -9,11 +9,20 @@ ghost use Rattle.cel_text.specs.Byte.{bytes};
 ghost use Rattle.pieces.specs.Pieces.{Wrote};
 ghost use Rattle.page.specs.Page.{shown, said};
 
-use libc::{STDERR_FILENO, STDIN_FILENO, STDOUT_FILENO};
+use std::env::{Env, FillError};
+use std::io::Read;
+use std::rt::Files;
+use std::{fs, io};
 
-fn put_help() {
-    io::write_all(
-        STDOUT_FILENO,
+// The numbers of the system's words for an argument that is too long, for one that is not there, and for a name that is no text.
+const TOO_LONG: i32 = 36;
+
+const NOT_THERE: i32 = 22;
+
+const NO_TEXT: i32 = 84;
+
+fn put_help(output: &impl Print) {
+    let _ = output.write_all(
         b"Usage: explain [FILE]\n\
           \n\
           Explains the certification expression in the file, or on standard input: the policy that it\n\
@@ -23,11 +32,11 @@ fn put_help() {
 }
 
 // Writes the report on a text.
-fn show(text: &[u8]) {
-    let mut out = io::large_buffer();
+fn show(output: &impl Print, errors: &impl Print, text: &[u8]) {
+    let mut out = [0u8; 65536];
     let n = report::report(text, &mut out);
-    if !io::write_all(STDOUT_FILENO, &out[..n]) {
-        os::fail(b"explain: cannot write");
+    if let Err(error) = output.write_all(&out[..n]) {
+        program::fail(errors, b"explain: cannot write", &error);
     }
 }
 
@@ -41,63 +50,80 @@ fn unreadable(name: &[u8], out: &mut [u8]) -> usize
 }
 
 // Says why a file cannot be read.
-fn refuse(path: &[u8]) {
-    let mut out = io::large_buffer();
+fn refuse(errors: &impl Print, path: &[u8], error: &io::Error) {
+    let mut out = [0u8; 65536];
     let n = unreadable(path, &mut out);
-    os::fail(&out[..n]);
+    program::fail(errors, &out[..n], error);
 }
 
-// Explains what a descriptor gives, or answers false where it cannot be read.
-fn explain_from(fd: i32) -> bool {
+// Explains what a reader gives, or answers why it cannot be read.
+fn explain_from<R: Read>(
+    reader: &mut R,
+    output: &impl Print,
+    errors: &impl Print,
+) -> io::Result<()> {
     let mut room = input::text_room();
-    let held = input::read_text(fd, &mut room);
-    if held.failed {
-        return false;
-    }
-    let n = held.bytes;
-    show(&room[..n]);
-    true
+    let n = input::read_text(reader, &mut room)?;
+    show(output, errors, &room[..n]);
+    Ok(())
 }
 
-fn explain_input() {
-    if !explain_from(STDIN_FILENO) {
-        os::fail(b"explain: cannot read standard input");
+fn explain_input<R: Read>(reader: &mut R, output: &impl Print, errors: &impl Print) {
+    if let Err(error) = explain_from(reader, output, errors) {
+        program::fail(errors, b"explain: cannot read standard input", &error);
     }
 }
 
-fn explain_file(path: &[u8]) {
-    let fd = os::open_read(path);
-    if fd < 0 {
-        refuse(path);
+// Explains the file with this name, or answers why it cannot be read. A name has to be UTF-8.
+fn explain_named(
+    files: &impl Files,
+    output: &impl Print,
+    errors: &impl Print,
+    path: &[u8],
+) -> io::Result<()> {
+    let Ok(name) = std::str::from_utf8(path) else {
+        return Err(io::Error::from_raw_os_error(NO_TEXT));
+    };
+    let mut file = fs::open(files, name)?;
+    explain_from(&mut file, output, errors)
+}
+
+fn explain_file(files: &impl Files, output: &impl Print, errors: &impl Print, path: &[u8]) {
+    if let Err(error) = explain_named(files, output, errors, path) {
+        refuse(errors, path, &error);
+    }
+}
+
+fn explain_argument(rt: &(impl Env + Files), output: &impl Print, errors: &impl Print) {
+    let mut argument = [0u8; 4096];
+    let n = match rt.arg(1, &mut argument) {
+        Ok(n) => n,
+        Err(FillError::TooLong) => {
+            let error = io::Error::from_raw_os_error(TOO_LONG);
+            program::fail(errors, b"explain: the file's name", &error);
+            return;
+        }
+        Err(FillError::NotPresent) => {
+            let error = io::Error::from_raw_os_error(NOT_THERE);
+            program::fail(errors, b"explain: the file's name", &error);
+            return;
+        }
+    };
+    if argument[..n] == b"--help"[..] {
+        put_help(output);
         return;
     }
-    if !explain_from(fd) {
-        refuse(path);
-    }
-    libc::close(fd);
+    explain_file(rt, output, errors, &argument[..n]);
 }
 
-fn explain_argument() {
-    let mut argument = io::buffer();
-    let n = os::arg(1, &mut argument);
-    if os::errno() != 0 {
-        os::fail(b"explain: the file's name");
-        return;
-    }
-    if check::same(&argument[..n], b"--help") {
-        put_help();
-        return;
-    }
-    explain_file(&argument[..n]);
-}
-
-fn main() {
-    match os::arg_count() {
-        1 => explain_input(),
-        2 => explain_argument(),
+fn main(rt: HostRuntime) {
+    let output = rt.stdout();
+    let errors = rt.stderr();
+    match program::arg_count(&rt) {
+        1 => explain_input(&mut rt.stdin(), &output, &errors),
+        2 => explain_argument(&rt, &output, &errors),
         _ => {
-            io::write_all(
-                STDERR_FILENO,
+            let _ = errors.write_all(
                 b"explain: takes one file at most; explain --help says more\n",
             );
         }

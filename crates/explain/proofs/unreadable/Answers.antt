@@ -1,0 +1,6 @@
+-- `unreadable` meets its contract: its pieces are those of the definition. Assumes nothing.
+use Rattle.pieces.specs.Laws.{wrote_then}
+use Rattle.explain.proofs.unreadable.Goals as goal
+
+pub returns : goal.returns
+returns c = wrote_then c.say-end.ensures (wrote_then c.put-end.ensures c.say.ensures)
