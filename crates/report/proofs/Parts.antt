@@ -8,8 +8,8 @@ use native.Mathlib.Omega.{arith}
 use mathlib.Core.List.{List, [], ◌∷◌, ◌++◌, append_assoc, append-nil}
 use lib.ListN.{length, get_or, take, drop, length-take, drop_of_length-le}
 use lib.Seq.{slice, take_all, take-length}
-use Rattle.bytes.specs.Bytes.{index_of}
-use Rattle.bytes.specs.Bytes.{slice as sliced}
+use Rattle.lines.specs.Bytes.{index_of}
+use Rattle.lines.specs.Bytes.{slice as sliced}
 use Rattle.cel_text.specs.Byte.{Text}
 use Rattle.cel_text.specs.Table.{Words}
 use Rattle.cel_policy.specs.Policy.{Span}

@@ -12,7 +12,7 @@ pub(crate) fn put_message(out: &mut [u8], at: usize, line: &[u8], number: u32, n
     ensures { Wrote out.old out.new at result (message line.now number n) }
 {
     let from = lines::part_start(line, number, b'|');
-    let to = bytes::scan::find(line, from, line.len(), b'|');
+    let to = lines::find(line, from, line.len(), b'|');
     page::say(out, at, &line[from..to], n)
 }
 

@@ -1,0 +1,9 @@
+-- `refusal::put_instead` meets its contract: its pieces are those of the definition. Assumes nothing.
+use Rattle.pieces.specs.Laws.{wrote_then}
+use Rattle.report.specs.Refusal.{instead_text}
+use Rattle.report.proofs.refusal.put_instead.Goals as goal
+
+pub returns : goal.returns
+unfolding instead_text
+returns c =
+    wrote_then c.put_expected-end.ensures (wrote_then c.spell-end.ensures c.say.ensures)
