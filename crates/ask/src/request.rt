@@ -10,16 +10,16 @@ use lines::Line;
 fn answer_verb(verb: &[u8], fields: &[u8], out: &mut [u8]) -> usize
     ensures { result ≤ length out.new }
 {
-    if verb == b"answers" {
+    if verb == b"answers".as_slice() {
         return answers::answer(fields, out);
     }
-    if verb == b"prints" {
+    if verb == b"prints".as_slice() {
         return prints::answer(fields, out);
     }
-    if verb == b"verdicts" {
+    if verb == b"verdicts".as_slice() {
         return verdicts::answer(fields, out);
     }
-    if verb == b"reports" {
+    if verb == b"reports".as_slice() {
         return reports::answer(fields, out);
     }
     put_bad(out)

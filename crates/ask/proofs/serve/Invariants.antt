@@ -1,0 +1,10 @@
+-- `serve` is safe, and ends since its turns are counted. Assumes nothing.
+use mathlib.Core.Path.{◌≡◌}
+use lib.ListN.{length}
+use Rattle.ask.proofs.serve.Given as goal
+
+abbrev pub invariant-loop-turns : goal.invariant-loop-turns
+invariant-loop-turns g l = (length l.input ≡ length l.initial.input) × (length l.out ≡ length l.initial.out)
+
+abbrev pub decreases-loop-turns : goal.decreases-loop-turns
+decreases-loop-turns g l = l.turns
