@@ -9,7 +9,7 @@ crate_names() {
 prove() {
 	log=$1
 	shift
-	{ rt "$@" 2>&1 || echo "rt ended with status $?"; } | tee "$log" | sed -u -n 's/^== \([a-z][a-z0-9_]*\)$/rt: \1/p; /^rt: note: /d; /^rt: /p'
+	{ rt "$@" 2>&1 || echo "rt ended with status $?"; } | tee "$log" | sed -u -n '/^== summary$/d; /^rt: note: /d; s/^== \([a-z][a-z0-9_]*\)$/rt: \1/; /^rt: /p'
 	! tail -n 1 "$log" | grep -q '^rt ended with status '
 }
 
