@@ -1,21 +1,22 @@
-# Sourced by .ci/run and tests/run at the top of the repository: the tests that `rt` cannot run, in rows side by side, and what became of them.
+# Sourced by .ci/run and tests/run at the top of the repository: the tests that `rt` cannot run, in rows side by side, and what became of them, in the folder
+# $kept, a new one for each run.
 # A test that fails lets its row go on. One that lacks something (status 3) fails too, unless HILLADOK_MAY_SKIP=1: then it is skipped.
 
-# The tests that need nothing proved. Two of them call `rt`, for its layout and its version, and none writes where `rt` does.
-apart='tests/layout tests/imports tests/promises tests/quotes tests/scripts tests/needs-misuse tests/gate-misuse tests/facts-misuse tests/axioms-misuse tests/notice tests/judge-misuse tests/differential tests/fuzz/misuse'
+# The tests that need nothing proved. One of them calls `rt`, for its version. None writes where `rt` does, and what they make below the repository has no file of
+# Rattle or antt, no crates.txt and no link, since `rt ci` refuses these: such things go to the system's folder for temporary files.
+apart='tests/holes tests/imports tests/promises tests/quotes tests/scripts tests/needs-misuse tests/gate-misuse tests/facts-misuse tests/axioms-misuse tests/notice tests/judge-misuse tests/differential tests/fuzz/misuse'
 
 # The archive, and the tests on it; the tests on the programs. The two rows take about the same time, and the first alone calls `rt`.
 on_archive='./archive tests/axioms tests/host/run tests/fuzz/replay tests/readme'
-on_programs='tests/explain tests/examples tests/spec-misuse tests/live tests/second-opinion tests/model/misuse tests/recordings/run tests/recordings/compare tests/recordings/misuse'
+on_programs='tests/explain tests/examples tests/spec-misuse tests/live tests/second-opinion tests/model/misuse'
+if grep -q '^replay:' crates.txt; then on_programs="$on_programs tests/recordings/run tests/recordings/compare tests/recordings/misuse"; fi
 
-kept=target/rows
 may_skip='. Where something is only missing, HILLADOK_MAY_SKIP=1 has the tests that need it skipped'
 
 # row NAME COMMAND...: one after the other. What they say goes to NAME.log, and the names of those that failed, or were skipped, to lists.
 row() {
 	name=$1
 	shift
-	mkdir -p $kept
 	for command in "$@"; do
 		began=$(date +%s)
 		status=0

@@ -2,9 +2,7 @@
 # Sets $programs, the folder of judge and texts, and $work, a folder that goes when the test ends.
 # Where this machine cannot have the judge the test ends as the build does: with status 3 and one line.
 
-target=$(cd "$here/.." && pwd)/target
-mkdir -p "$target"
-work=$(mktemp -d "$target/$(basename "$0").XXXXXX")
+work=$(mktemp -d)
 trap 'rm -rf "$work"' EXIT
 trap 'exit 1' HUP INT TERM
 
