@@ -56,6 +56,13 @@ pub fn to_front(buffer: &mut [u8], from: usize, to: usize)
     }
 }
 
+// The same where there are such bytes.
+fn shift(input: &mut [u8], from: usize, to: usize)
+    requires { (from ≤ to) × (to ≤ length input.old) }
+{
+    to_front(input, from, to);
+}
+
 // Reads on until a line is whole, the input ends or the buffer is full; the bytes held have no line end.
 fn fill<R: Read>(reader: &mut R, input: &mut [u8], kept: usize) -> Line
     requires { kept ≤ length input.old }
@@ -113,7 +120,7 @@ fn following<R: Read>(reader: &mut R, input: &mut [u8], to: usize, held: usize) 
             cut: false,
         };
     }
-    to_front(input, from, held);
+    shift(input, from, held);
     fill(reader, input, held - from)
 }
 
