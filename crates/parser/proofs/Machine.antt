@@ -113,7 +113,8 @@ abbrev pub named_from : (kind place : ℕ) → ℕ
 named_from kind p = cond (eqb kind (kind_number array)) 0 p
 
 -- the byte that opens a value, after an identifier and after none
-past-opens : (K : Stack) (from to p b : ℕ) → past string_set limits (value K) from to p b ≡ opens (opener_kind false b) K (named_from (opener_kind false b) from) (named_from (opener_kind false b) to) p
+past-opens : (K : Stack) (from to p b : ℕ)
+    → past string_set limits (value K) from to p b ≡ opens (opener_kind false b) K (named_from (opener_kind false b) from) (named_from (opener_kind false b) to) p
 unfolding past
 past-opens K from to p b =
     cases (eqb b (opener object)) (λ t. rw t) (λ t₁. cases (eqb b (opener function)) (λ t. rw (t₁, t))

@@ -42,10 +42,22 @@ named-starts (nameless {b = b} bs) y r nb nc = record { blanks = b; head = y; ta
 named-starts (with_name {b = b} {c = c} bs (byte {b = i} {bs = is} t ts) cs) y r nb nc =
     record { blanks = b; head = i; tail = is ++ (c ++ y ∷ r); split = simp append_assoc; are_blanks = bs; no_blank = blank-ident i t; no_closer = ident-closer i t }
 
+-- no opener closes anything
+opener-closer : (c d : Kind) → eqb (opener c) (closer d) ≡ false
+opener-closer array array = refl
+opener-closer array object = refl
+opener-closer array function = refl
+opener-closer object array = refl
+opener-closer object object = refl
+opener-closer object function = refl
+opener-closer function array = refl
+opener-closer function object = refl
+opener-closer function function = refl
+
 open-starts : (c : Kind) {p : ℕ} {h : Text} {from to : ℕ} → Head c p h from to → (r : Text) → Starts (h ++ opener c ∷ r)
-open-starts array (array_head bs) r = named-starts {p = 0} (nameless bs) (opener array) r (unfold blank in refl) (λ c. elim c as (λ k. eqb (opener array) (closer k) ≡ false) [ array ↦ refl | object ↦ refl | function ↦ refl ])
-open-starts object (object_head n) r = named-starts n (opener object) r (unfold blank in refl) (λ c. elim c as (λ k. eqb (opener object) (closer k) ≡ false) [ array ↦ refl | object ↦ refl | function ↦ refl ])
-open-starts function (function_head n) r = named-starts n (opener function) r (unfold blank in refl) (λ c. elim c as (λ k. eqb (opener function) (closer k) ≡ false) [ array ↦ refl | object ↦ refl | function ↦ refl ])
+open-starts array (array_head bs) r = named-starts {p = 0} (nameless bs) (opener array) r (unfold blank in refl) (opener-closer array)
+open-starts object (object_head n) r = named-starts n (opener object) r (unfold blank in refl) (opener-closer object)
+open-starts function (function_head n) r = named-starts n (opener function) r (unfold blank in refl) (opener-closer function)
 
 value-starts : (S : ℕ → Bool) {p : ℕ} {v : Text} {t : Tree} → Value S p v t → (r : Text) → Starts (v ++ r)
 value-starts S (a_string {b = b} {i = i} {c = c} bs is cs) r =

@@ -10,7 +10,7 @@ use Rattle.cel_text.specs.Byte.{Text, ◌⧺◌, blank, ident_byte, Run, over, b
 use Rattle.cel_text.specs.Tree.{Tree, opener, array}
 use Rattle.cel_text.specs.Grammar.{Named, nameless, with_name}
 use Rattle.cel_text.specs.Reading.{Limits, Stack, root, inside, Frame, Due, value, entry, State, before, naming, named, quoted, dropping, begun, after, Step, go, done, refuse, step, start}
-use Rattle.cel_text.specs.Reading.{past, bare, unquote, whole, with_child, Outcome, accepted, ended, stopped, outcome, meet, follow, halt, run}
+use Rattle.cel_text.specs.Reading.{past, bare, unquote, whole, Outcome, ended, stopped, outcome, meet, follow, halt, run}
 use Rattle.cel_text.specs.Resume.{resume}
 use Rattle.cel_text.proofs.Laws.Class.{is_true, ident-blank, blank-ident}
 

@@ -30,7 +30,9 @@ returns-then-row-expected_kind c =
 pub part-requires : goal.part-requires
 part-requires c =
     let read : RowRead c.args.table.now c.args.node.0 c.read_row-row.result = row_read c.read_row-row.ensures (room c.args.table.now c.args.text.now c.args.node.0 c.requires) in
-    let right : let w = c.args.table.now in let x = c.args.text.now in NameAt w x c.args.node.0 c.args.name (typed_at w x c.args.node.0) (typed (expected_kind c.args.name) c.args.name (node_at w x c.args.node.0)) =
+    let w = c.args.table.now in
+    let x = c.args.text.now in
+    let right : NameAt w x c.args.node.0 c.args.name (typed_at w x c.args.node.0) (typed (expected_kind c.args.name) c.args.name (node_at w x c.args.node.0)) =
     right-kind c.args.table.now c.args.text.now (expected_kind c.args.name) c.args.name c.args.node.0 c.requires
     (sym read.kind ∙ c.if-row-expected_kind.false ∙ c.expected_kind.ensures) in
     let r = read in
@@ -39,7 +41,9 @@ part-requires c =
 pub returns-then-is_name : goal.returns-then-is_name
 returns-then-is_name c =
     let read : RowRead c.args.table.now c.args.node.0 c.read_row-row.result = row_read c.read_row-row.ensures (room c.args.table.now c.args.text.now c.args.node.0 c.requires) in
-    let right : let w = c.args.table.now in let x = c.args.text.now in NameAt w x c.args.node.0 c.args.name (typed_at w x c.args.node.0) (typed (expected_kind c.args.name) c.args.name (node_at w x c.args.node.0)) =
+    let w = c.args.table.now in
+    let x = c.args.text.now in
+    let right : NameAt w x c.args.node.0 c.args.name (typed_at w x c.args.node.0) (typed (expected_kind c.args.name) c.args.name (node_at w x c.args.node.0)) =
     right-kind c.args.table.now c.args.text.now (expected_kind c.args.name) c.args.name c.args.node.0 c.requires
     (sym read.kind ∙ c.if-row-expected_kind.false ∙ c.expected_kind.ensures) in
     let spelled : let w = c.args.table.now in c.is_name.result ≡ same (slice (word w c.args.node.0 1) (word w c.args.node.0 2) c.args.text.now) (spelling c.args.name) =
@@ -51,7 +55,9 @@ returns-then-is_name c =
 pub returns : goal.returns
 returns c =
     let read : RowRead c.args.table.now c.args.node.0 c.read_row-row.result = row_read c.read_row-row.ensures (room c.args.table.now c.args.text.now c.args.node.0 c.requires) in
-    let right : let w = c.args.table.now in let x = c.args.text.now in NameAt w x c.args.node.0 c.args.name (typed_at w x c.args.node.0) (typed (expected_kind c.args.name) c.args.name (node_at w x c.args.node.0)) =
+    let w = c.args.table.now in
+    let x = c.args.text.now in
+    let right : NameAt w x c.args.node.0 c.args.name (typed_at w x c.args.node.0) (typed (expected_kind c.args.name) c.args.name (node_at w x c.args.node.0)) =
     right-kind c.args.table.now c.args.text.now (expected_kind c.args.name) c.args.name c.args.node.0 c.requires
     (sym read.kind ∙ c.if-row-expected_kind.false ∙ c.expected_kind.ensures) in
     let spelled : let w = c.args.table.now in c.is_name.result ≡ same (slice (word w c.args.node.0 1) (word w c.args.node.0 2) c.args.text.now) (spelling c.args.name) =

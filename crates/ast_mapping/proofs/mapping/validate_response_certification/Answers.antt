@@ -52,7 +52,9 @@ pub returns-in-Good-second : goal.returns-in-Good-second
 returns-in-Good-second c =
     let looked : Looked c.args.table.now c.args.text.now c.args.certification.0 11 (At c.in-At.response) = rw c.in-At.is at c.lookup-found.ensures in
     let right : Checked c.args.table.now c.args.text.now c.in-At.response.0 12 Right = rw c.in_default-check.is at c.validate_node-check.ensures in
-    let included : let w = c.args.table.now in HeadersFound w (Good c.in-Good.list) (list_of 13 (lookup 13 (children (node_at w c.args.text.now c.in-At.response.0)))) = rw c.in-Good.is at c.response_headers-first.ensures in
+    let w = c.args.table.now in
+    let included : HeadersFound w (Good c.in-Good.list) (list_of 13 (lookup 13 (children (node_at w c.args.text.now c.in-At.response.0)))) =
+    rw c.in-Good.is at c.response_headers-first.ensures in
     response-one c.args.table.now c.args.text.now c.args.certification.0 looked right included
     (rw c.in-Good-second.is at c.response_headers-second.ensures) c.exactly_one.result c.exactly_one.ensures
 
@@ -60,6 +62,8 @@ pub returns-in-Refused-second : goal.returns-in-Refused-second
 returns-in-Refused-second c =
     let looked : Looked c.args.table.now c.args.text.now c.args.certification.0 11 (At c.in-At.response) = rw c.in-At.is at c.lookup-found.ensures in
     let right : Checked c.args.table.now c.args.text.now c.in-At.response.0 12 Right = rw c.in_default-check.is at c.validate_node-check.ensures in
-    let included : let w = c.args.table.now in HeadersFound w (Good c.in-Good.list) (list_of 13 (lookup 13 (children (node_at w c.args.text.now c.in-At.response.0)))) = rw c.in-Good.is at c.response_headers-first.ensures in
+    let w = c.args.table.now in
+    let included : HeadersFound w (Good c.in-Good.list) (list_of 13 (lookup 13 (children (node_at w c.args.text.now c.in-At.response.0)))) =
+    rw c.in-Good.is at c.response_headers-first.ensures in
     response-second c.args.table.now c.args.text.now c.args.certification.0 looked right included
     (rw c.in-Refused-second.is at c.response_headers-second.ensures)

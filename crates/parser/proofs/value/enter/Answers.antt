@@ -14,11 +14,14 @@ returns-then-left-eq0 c =
 pub returns-then-node-eq-MAX_NODES : goal.returns-then-node-eq-MAX_NODES
 returns-then-node-eq-MAX_NODES c =
     let a = c.args in
-    stopped-full a.kind a.at.0 a.node.0 a.left c.if-kind-eq0.false (λ h e. elim c.if-kind-ne-STRING.branch [ then-kind-ne-STRING+else-left-eq0 w ↦ w.if-left-eq0.false e | else-kind-ne-STRING w ↦ h w.if-kind-ne-STRING.false ])
+    stopped-full a.kind a.at.0 a.node.0 a.left c.if-kind-eq0.false
+    (λ h e. elim c.if-kind-ne-STRING.branch [ then-kind-ne-STRING+else-left-eq0 w ↦ w.if-left-eq0.false e | else-kind-ne-STRING w ↦ h w.if-kind-ne-STRING.false ])
     c.if-node-eq-MAX_NODES.true
 
 pub returns : goal.returns
 returns c =
     let a = c.args in
-    entered a.kind a.at.0 a.node.0 a.left c.if-kind-eq0.false (λ h e. elim c.if-kind-ne-STRING.branch [ then-kind-ne-STRING+else-left-eq0 w ↦ w.if-left-eq0.false e | else-kind-ne-STRING w ↦ h w.if-kind-ne-STRING.false ]) c.if-node-eq-MAX_NODES.false
+    entered a.kind a.at.0 a.node.0 a.left c.if-kind-eq0.false
+    (λ h e. elim c.if-kind-ne-STRING.branch [ then-kind-ne-STRING+else-left-eq0 w ↦ w.if-left-eq0.false e | else-kind-ne-STRING w ↦ h w.if-kind-ne-STRING.false ])
+    c.if-node-eq-MAX_NODES.false
     c.requires.1
