@@ -2,25 +2,26 @@
 use mathlib.Core.Path.{◌≡◌, refl, sym, ap, subst, ◌∙◌}
 use Prim.Native.Nat.{ℕ, zero, suc, ◌+◌, ◌-◌, ◌≤◌, ◌<◌}
 use native.Mathlib.Omega.{arith}
-use mathlib.Core.Bool.{Bool, true, false}
-use mathlib.Core.List.{List, [], ◌∷◌, ◌++◌, append_assoc, append-nil}
-use lib.ListN.{length, take, drop, length-append, length-drop}
+use mathlib.Core.Bool.{Bool, true}
+use mathlib.Core.List.{[], ◌∷◌, ◌++◌}
+use lib.ListN.{length, take, drop, length-drop}
 use lib.Seq.{take-append-add, take-append-le, take_at, length-take-le, take-nil, drop-drop}
 use borrow.Author.Tests.{le-leb}
 use borrow.Rule.Slice.PartMut.{put_mid, post_of, same_len_mid, mid_len}
-use borrow.Table.Steps.{cases}
+use Rattle.std.specs.Prelude.{Option, None}
+use Rattle.std.specs.declared.io.Error.{Error}
 use Rattle.cel_text.specs.Byte.{Text}
 use Rattle.lines.specs.Input.{brought_front}
 use Rattle.recording.specs.declared.State.{State}
 use Rattle.recording.specs.declared.Turn.{Turn}
-use Rattle.recording.specs.declared.Why.{Why}
 use Rattle.recording.specs.declared.Why.TheVariants.{Wanting, Full, Over}
-use Rattle.recording.specs.Turn.{beginning, turned, turn_of, Runs, full, reads, ends}
+use Rattle.recording.specs.Turn.{turned, turn_of}
+use Rattle.recording.specs.Laws.Event.{most_held}
 use Rattle.recording.specs.Laws.Turn.{turned-within, turned-wanting}
 use Rattle.replay.specs.declared.window.Held.{Held}
-use Rattle.replay.specs.Window.{is_last, Inside, window_of, Reads, Read, Next, Follows, Asks, Leads}
+use Rattle.replay.specs.Window.{Inside, window_of, Reads, Read, Follows, Asks}
 
-abbrev held_as : (at end : ℕ) (ended failed : Bool) → Held
+abbrev held_as : (at end : ℕ) (ended : Bool) (failed : Option Error) → Held
 held_as at end ended failed = record { at = at; end = end; ended = ended; failed = failed }
 
 -- ---- a read
@@ -35,7 +36,7 @@ module _ (input part : Text) (kept more : ℕ) (h : kept ≤ length input) (l : 
   read_length : length (put_mid kept (length input - kept) input part) ≡ length input
   read_length = same_len_mid kept (length input - kept) input part (l ∙ sym (mid_len kept (length input) input (omega arith)))
 
-  pub read-brings : (ended failed : Bool) → (ended ≡ true → more ≡ 0) → Read kept input (put_mid kept (length input - kept) input part) (held_as 0 (kept + more) ended failed)
+  pub read-brings : (ended : Bool) (failed : Option Error) → (ended ≡ true → more ≡ 0) → Read kept input (put_mid kept (length input - kept) input part) (held_as 0 (kept + more) ended failed)
   read-brings ended failed f =
       record {
         inside = record { ordered = omega arith; room = rw read_length (omega arith) };
@@ -68,16 +69,16 @@ left-window input at end used h =
     sym (drop-take used (end - at) (drop at input) ∙ rw (drop-drop, e))
 
 module _ (input : Text) (h : Held) (turn : Turn) (a : Asks input h turn) where
-  behind-window : window_of input (held_as (h.at + turn.used) h.end h.ended false) ≡ drop turn.used (window_of input h)
+  behind-window : window_of input (held_as (h.at + turn.used) h.end h.ended None) ≡ drop turn.used (window_of input h)
   behind-window = left-window input h.at h.end turn.used a.used
 
-  behind-inside : Inside input (held_as (h.at + turn.used) h.end h.ended false)
+  behind-inside : Inside input (held_as (h.at + turn.used) h.end h.ended None)
   behind-inside = record { ordered = a.used; room = a.inside.room }
 
-  pub follows-full : (r : Held) → turn.why ≡ Full → r ≡ held_as (h.at + turn.used) h.end h.ended false → Follows input h turn input r
+  pub follows-full : (r : Held) → turn.why ≡ Full → r ≡ held_as (h.at + turn.used) h.end h.ended None → Follows input h turn input r
   follows-full r q e = rw e (record { inside = behind-inside; next = rw q (behind-window, refl) })
 
-  pub follows-over : (r : Held) → turn.why ≡ Over → r ≡ held_as (h.at + turn.used) h.end h.ended false → Follows input h turn input r
+  pub follows-over : (r : Held) → turn.why ≡ Over → r ≡ held_as (h.at + turn.used) h.end h.ended None → Follows input h turn input r
   follows-over r q e = rw e (record { inside = behind-inside; next = rw q (behind-window, refl) })
 
   pub follows-read : (input' : Text) (r : Held) → turn.why ≡ Wanting
@@ -87,3 +88,23 @@ module _ (input : Text) (h : Held) (turn : Turn) (a : Asks input h turn) where
         inside = d.0;
         next = rw q (subst (λ (x : Text). Reads x (window_of input' r) r.ended) (left-window input h.at h.end turn.used a.used) d.1);
       }
+
+-- ---- a turn over the bytes held
+
+window-length : (input : Text) (h : Held) → Inside input h → length (window_of input h) ≡ h.end - h.at
+window-length input h i = length-take-le (h.end - h.at) (drop h.at input) (simp length-drop (omega (arith, i.ordered, i.room)))
+
+module _ (s : State) (input : Text) (h : Held) (room : ℕ) (i : Inside input h) (m : most_held < length input) where
+  asks-turned : Asks input h (turn_of (turned s (window_of input h) h.ended room))
+  asks-turned =
+      let w : Text = window_of input h in
+      let n : length (window_of input h) ≡ h.end - h.at = window-length input h i in
+      let u : (turned s (window_of input h) h.ended room).used ≤ length (window_of input h) = turned-within s w h.ended room in
+      record {
+        inside = i;
+        used = omega (arith, n, u, i.ordered);
+        room = λ q. let l : length (window_of input h) - (turned s (window_of input h) h.ended room).used ≤ most_held = (turned-wanting s w h.ended room q).1 in omega (arith, n, l);
+      }
+
+  pub asks : (turn : Turn) → turn ≡ turn_of (turned s (window_of input h) h.ended room) → Asks input h turn
+  asks turn e = rw e asks-turned
