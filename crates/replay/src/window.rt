@@ -65,7 +65,7 @@ fn refill<R: io::Read>(reader: &mut R, input: &mut [u8], at: usize, end: usize) 
     read_more(reader, input, end - at)
 }
 
-// One read behind the bytes kept, for which there is room. At the end of the input it brings nothing. Where it fails it brings nothing either, but that is no end.
+// One read behind the bytes kept, for which there is room. At the end of the input it brings nothing; nor does one that fails, but that is no end.
 fn read_more<R: io::Read>(reader: &mut R, input: &mut [u8], kept: usize) -> Held
     requires { kept < length input.old }
     ensures { Read kept input.old input.new result }
