@@ -21,11 +21,11 @@ number-one [] a h e s = absurd (omega arith)
 number-one (a' ∷ x) a h e s = rw (sym e, lt-ltb a 128 s)
 
 module _ (a : ℕ) (o : 128 ≤ a) where
-  pub number-two-cut : (x : List ℕ) → 1 ≤ length x → a ≡ get_or x 0 0 → length x < 2 → Cut ≡ number x
+  pub number-two_cut : (x : List ℕ) → 1 ≤ length x → a ≡ get_or x 0 0 → length x < 2 → Cut ≡ number x
   unfolding number
-  number-two-cut [] h e l = absurd (omega arith)
-  number-two-cut (a' ∷ []) h e l = rw (sym e, le-ltb a 128 o)
-  number-two-cut (a' ∷ (b' ∷ x)) h e l = absurd (omega arith)
+  number-two_cut [] h e l = absurd (omega arith)
+  number-two_cut (a' ∷ []) h e l = rw (sym e, le-ltb a 128 o)
+  number-two_cut (a' ∷ (b' ∷ x)) h e l = absurd (omega arith)
 
   pub number-two : (x : List ℕ) (b : ℕ) → 2 ≤ length x → a ≡ get_or x 0 0 → b ≡ get_or x 1 0 → b < 128 → ending (a - 128 + 128 * b) b 2 ≡ number x
   unfolding number
@@ -34,12 +34,12 @@ module _ (a : ℕ) (o : 128 ≤ a) where
   number-two (a' ∷ (b' ∷ x)) b h e f s = rw (sym e, sym f, le-ltb a 128 o, lt-ltb b 128 s)
 
 module _ (a b : ℕ) (o : 128 ≤ a) (p : 128 ≤ b) where
-  pub number-three-cut : (x : List ℕ) → 2 ≤ length x → a ≡ get_or x 0 0 → b ≡ get_or x 1 0 → length x < 3 → Cut ≡ number x
+  pub number-three_cut : (x : List ℕ) → 2 ≤ length x → a ≡ get_or x 0 0 → b ≡ get_or x 1 0 → length x < 3 → Cut ≡ number x
   unfolding number
-  number-three-cut [] h e f l = absurd (omega arith)
-  number-three-cut (a' ∷ []) h e f l = absurd (omega arith)
-  number-three-cut (a' ∷ (b' ∷ [])) h e f l = rw (sym e, sym f, le-ltb a 128 o, le-ltb b 128 p)
-  number-three-cut (a' ∷ (b' ∷ (c' ∷ x))) h e f l = absurd (omega arith)
+  number-three_cut [] h e f l = absurd (omega arith)
+  number-three_cut (a' ∷ []) h e f l = absurd (omega arith)
+  number-three_cut (a' ∷ (b' ∷ [])) h e f l = rw (sym e, sym f, le-ltb a 128 o, le-ltb b 128 p)
+  number-three_cut (a' ∷ (b' ∷ (c' ∷ x))) h e f l = absurd (omega arith)
 
   -- two groups before a last one
   three : (c : ℕ) → ending (a - 128 + 128 * (b - 128) + 16384 * c) c 3 ≡ before a (ending (b - 128 + 128 * c) c 2)

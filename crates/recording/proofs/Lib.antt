@@ -1,3 +1,2 @@
 mod Events
-mod Lines
 mod Turns

@@ -1,6 +1,5 @@
 pub mod Records
 pub mod Event
-pub mod Recorded
 pub mod Lengths
 pub mod Turn
 pub mod Run

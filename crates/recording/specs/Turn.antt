@@ -1,5 +1,5 @@
 -- A turn over the bytes held, as `advance` makes one, and a run of turns with reads between them. Assumes nothing.
-use Rattle.std.specs.Prelude.{◌≡◌, ℕ, zero, suc, ◌+◌, ◌-◌, ◌≤◌, Bool, true, false, cond, ◌&&◌, List, [], ◌∷◌, ◌++◌, length, drop, ltb, leb}
+use Rattle.std.specs.Prelude.{◌≡◌, ℕ, zero, suc, ◌+◌, ◌-◌, Bool, true, false, cond, ◌&&◌, List, [], ◌∷◌, ◌++◌, length, drop, leb}
 use Rattle.cel_text.specs.Byte.{Text}
 use Rattle.recording.specs.declared.State.{State}
 use Rattle.recording.specs.declared.Why.{Why}

@@ -4,11 +4,12 @@ use Prim.Native.Nat.{ℕ, zero, suc, ◌+◌, ◌-◌, ◌≤◌, ◌<◌}
 use native.Mathlib.Omega.{arith}
 use mathlib.Core.Bool.{Bool, true, false}
 use mathlib.Core.List.{List, [], ◌∷◌, ◌++◌, append_assoc, append-nil}
-use lib.ListN.{length, take, drop, length-append, length-drop}
+use lib.ListN.{length, take, drop, length-drop}
 use lib.Seq.{take-append-add, take-append-le, take_at, length-take-le, take-nil, drop-drop}
 use borrow.Author.Tests.{le-leb}
 use borrow.Rule.Slice.PartMut.{put_mid, post_of, same_len_mid, mid_len}
-use borrow.Table.Steps.{cases}
+use Rattle.std.specs.Prelude.{Option, None}
+use Rattle.std.specs.declared.io.Error.{Error}
 use Rattle.cel_text.specs.Byte.{Text}
 use Rattle.lines.specs.Input.{brought_front}
 use Rattle.recording.specs.declared.State.{State}
@@ -16,11 +17,12 @@ use Rattle.recording.specs.declared.Turn.{Turn}
 use Rattle.recording.specs.declared.Why.{Why}
 use Rattle.recording.specs.declared.Why.TheVariants.{Wanting, Full, Over}
 use Rattle.recording.specs.Turn.{beginning, turned, turn_of, Runs, full, reads, ends}
+use Rattle.recording.specs.Laws.Event.{most_held}
 use Rattle.recording.specs.Laws.Turn.{turned-within, turned-wanting}
 use Rattle.replay.specs.declared.window.Held.{Held}
 use Rattle.replay.specs.Window.{is_last, Inside, window_of, Reads, Read, Next, Follows, Asks, Leads}
 
-abbrev held_as : (at end : ℕ) (ended failed : Bool) → Held
+abbrev held_as : (at end : ℕ) (ended : Bool) (failed : Option Error) → Held
 held_as at end ended failed = record { at = at; end = end; ended = ended; failed = failed }
 
 -- ---- a read
@@ -35,7 +37,7 @@ module _ (input part : Text) (kept more : ℕ) (h : kept ≤ length input) (l : 
   read_length : length (put_mid kept (length input - kept) input part) ≡ length input
   read_length = same_len_mid kept (length input - kept) input part (l ∙ sym (mid_len kept (length input) input (omega arith)))
 
-  pub read-brings : (ended failed : Bool) → (ended ≡ true → more ≡ 0) → Read kept input (put_mid kept (length input - kept) input part) (held_as 0 (kept + more) ended failed)
+  pub read-brings : (ended : Bool) (failed : Option Error) → (ended ≡ true → more ≡ 0) → Read kept input (put_mid kept (length input - kept) input part) (held_as 0 (kept + more) ended failed)
   read-brings ended failed f =
       record {
         inside = record { ordered = omega arith; room = rw read_length (omega arith) };
@@ -68,16 +70,16 @@ left-window input at end used h =
     sym (drop-take used (end - at) (drop at input) ∙ rw (drop-drop, e))
 
 module _ (input : Text) (h : Held) (turn : Turn) (a : Asks input h turn) where
-  behind-window : window_of input (held_as (h.at + turn.used) h.end h.ended false) ≡ drop turn.used (window_of input h)
+  behind-window : window_of input (held_as (h.at + turn.used) h.end h.ended None) ≡ drop turn.used (window_of input h)
   behind-window = left-window input h.at h.end turn.used a.used
 
-  behind-inside : Inside input (held_as (h.at + turn.used) h.end h.ended false)
+  behind-inside : Inside input (held_as (h.at + turn.used) h.end h.ended None)
   behind-inside = record { ordered = a.used; room = a.inside.room }
 
-  pub follows-full : (r : Held) → turn.why ≡ Full → r ≡ held_as (h.at + turn.used) h.end h.ended false → Follows input h turn input r
+  pub follows-full : (r : Held) → turn.why ≡ Full → r ≡ held_as (h.at + turn.used) h.end h.ended None → Follows input h turn input r
   follows-full r q e = rw e (record { inside = behind-inside; next = rw q (behind-window, refl) })
 
-  pub follows-over : (r : Held) → turn.why ≡ Over → r ≡ held_as (h.at + turn.used) h.end h.ended false → Follows input h turn input r
+  pub follows-over : (r : Held) → turn.why ≡ Over → r ≡ held_as (h.at + turn.used) h.end h.ended None → Follows input h turn input r
   follows-over r q e = rw e (record { inside = behind-inside; next = rw q (behind-window, refl) })
 
   pub follows-read : (input' : Text) (r : Held) → turn.why ≡ Wanting
@@ -87,3 +89,96 @@ module _ (input : Text) (h : Held) (turn : Turn) (a : Asks input h turn) where
         inside = d.0;
         next = rw q (subst (λ (x : Text). Reads x (window_of input' r) r.ended) (left-window input h.at h.end turn.used a.used) d.1);
       }
+
+-- ---- a turn over the bytes held
+
+window-length : (input : Text) (h : Held) → Inside input h → length (window_of input h) ≡ h.end - h.at
+window-length input h i = length-take-le (h.end - h.at) (drop h.at input) (simp length-drop (omega (arith, i.ordered, i.room)))
+
+module _ (s : State) (input : Text) (h : Held) (room : ℕ) (i : Inside input h) (m : most_held < length input) where
+  asks-turned : Asks input h (turn_of (turned s (window_of input h) h.ended room))
+  asks-turned =
+      let w : Text = window_of input h in
+      let n : length (window_of input h) ≡ h.end - h.at = window-length input h i in
+      let u : (turned s (window_of input h) h.ended room).used ≤ length (window_of input h) = turned-within s w h.ended room in
+      record {
+        inside = i;
+        used = omega (arith, n, u, i.ordered);
+        room = λ q. let l : length (window_of input h) - (turned s (window_of input h) h.ended room).used ≤ most_held = (turned-wanting s w h.ended room q).1 in omega (arith, n, l);
+      }
+
+  pub asks : (turn : Turn) → turn ≡ turn_of (turned s (window_of input h) h.ended room) → Asks input h turn
+  asks turn e = rw e asks-turned
+
+-- ---- the run
+
+apart : {P : Type 0} → ◌≡◌ {A = Bool} true false → P
+apart e = absurd (let z : ◌≡◌ {A = ℕ} 0 1 = cc in omega arith)
+
+-- before the first turn nothing is read and nothing written
+leads-none : Leads beginning [] false
+leads-none = record { read = []; wrote = []; leads = λ cs o f r. r }
+
+pub leads-first : (input : Text) (s : State) (h : Held) → s ≡ beginning → h ≡ held_as 0 0 false None → Leads s (window_of input h) h.ended
+leads-first input s h e f = rw (e, f) leads-none
+
+pub inside-first : (input : Text) (h : Held) → h ≡ held_as 0 0 false None → Inside input h
+inside-first input h f = rw f (record { ordered = omega arith; room = omega arith })
+
+module _ (s : State) (w : Text) (ended : Bool) (room : ℕ) (l : Leads s w ended) where
+  -- the turn and what it leaves
+  leads-full : (turned s w ended room).why ≡ Full → Leads (turned s w ended room).state (drop (turned s w ended room).used w) ended
+  leads-full q =
+      record {
+        read = l.read;
+        wrote = l.wrote ++ (turned s w ended room).wrote;
+        leads =
+            λ cs o f r. subst (λ (x : Text). Runs beginning [] false (l.read ++ cs) x) (sym (append_assoc l.wrote (turned s w ended room).wrote o))
+            (l.leads cs ((turned s w ended room).wrote ++ o) f (full room q r refl));
+      }
+
+module _ (s : State) (w : Text) (room : ℕ) (l : Leads s w false) (q : (turned s w false room).why ≡ Wanting) where
+  leads-piece : (c : Text) → Leads (turned s w false room).state (drop (turned s w false room).used w ++ c) false
+  leads-piece c =
+      record {
+        read = l.read ++ (c ∷ []);
+        wrote = l.wrote ++ (turned s w false room).wrote;
+        leads =
+            λ cs o f r. rw (append_assoc l.read (c ∷ []) cs, append_assoc l.wrote (turned s w false room).wrote o)
+            (l.leads (c ∷ cs) ((turned s w false room).wrote ++ o) (λ e. apart (sym e)) (reads room q r refl));
+      }
+
+  leads-end : Leads (turned s w false room).state (drop (turned s w false room).used w) true
+  leads-end =
+      record {
+        read = l.read;
+        wrote = l.wrote ++ (turned s w false room).wrote;
+        leads =
+            λ cs o f r. rw (f refl, append_assoc l.wrote (turned s w false room).wrote o)
+            (l.leads [] ((turned s w false room).wrote ++ o) (λ e. apart (sym e))
+            (ends room q (subst (λ (x : List Text). Runs (turned s w false room).state (drop (turned s w false room).used w) true x o) (f refl) r) refl));
+      }
+
+  leads-read : (w' : Text) (ended' : Bool) → Reads (drop (turned s w false room).used w) w' ended' → Leads (turned s w false room).state w' ended'
+  leads-read w' false d = rw d.read (leads-piece d.piece)
+  leads-read w' true d =
+      rw (d.read ∙ ap (λ (z : Text). drop (turned s w false room).used w ++ z) (d.none refl) ∙ append-nil (drop (turned s w false room).used w)) leads-end
+
+leads-wanting : (s : State) (w : Text) (ended : Bool) (room : ℕ) → Leads s w ended → (turned s w ended room).why ≡ Wanting → (w' : Text) (ended' : Bool)
+    → Reads (drop (turned s w ended room).used w) w' ended' → Leads (turned s w ended room).state w' ended'
+leads-wanting s w false room l q w' ended' d = leads-read s w room l q w' ended' d
+leads-wanting s w true room l q w' ended' d = apart (turned-wanting s w true room q).0
+
+leads-by : (s : State) (w : Text) (ended : Bool) (room : ℕ) → Leads s w ended → (a : Why) → (turned s w ended room).why ≡ a → is_last a ≡ false
+    → (w' : Text) (ended' : Bool) → Next a (drop (turned s w ended room).used w) ended w' ended' → Leads (turned s w ended room).state w' ended'
+leads-by s w ended room l Wanting q f w' ended' n = leads-wanting s w ended room l q w' ended' n
+leads-by s w ended room l Full q f w' ended' n = rw (n.0, n.1) (leads-full s w ended room l q)
+leads-by s w ended room l Over q f w' ended' n = apart f
+
+-- after a turn that is not the last, and what follows it
+pub leads-next : (s : State) (input : Text) (h : Held) (room : ℕ) (turn : Turn) (input' : Text) (r : Held) → Leads s (window_of input h) h.ended
+    → turn ≡ turn_of (turned s (window_of input h) h.ended room) → is_last turn.why ≡ false → Follows input h turn input' r
+    → Leads turn.state (window_of input' r) r.ended
+leads-next s input h room turn input' r l e f d =
+    rw e
+    (leads-by s (window_of input h) h.ended room l (turned s (window_of input h) h.ended room).why refl (rw e at f) (window_of input' r) r.ended (rw e at d.next))

@@ -7,12 +7,20 @@ mod window;
 ghost use Rattle.std.specs.Prelude.{◌≡◌, length};
 ghost use Rattle.replay.specs.Window.{is_last};
 
-use libc::{STDERR_FILENO, STDOUT_FILENO};
 use recording::{Turn, Why};
+use std::env::Env;
+use std::io;
+use std::io::Read;
 
 // Turn after turn, until one is the last. What a turn wrote is written out before more is read, since a read may wait. Nothing says that the input ends,
 // so the turns are counted down from a number that no run uses up.
-fn serve(input: &mut [u8], out: &mut [u8])
+fn serve<R: Read>(
+    reader: &mut R,
+    output: &impl Print,
+    errors: &impl Print,
+    input: &mut [u8],
+    out: &mut [u8],
+)
     requires { length input.old ≡ 65536 }
 {
     let mut state = recording::start();
@@ -23,15 +31,15 @@ fn serve(input: &mut [u8], out: &mut [u8])
         let end = held.end;
         let turn = recording::advance(state, &input[at..end], held.ended, out);
         let written = turn.written;
-        if !say(&out[..written]) {
+        if !say(output, errors, &out[..written]) {
             return;
         }
         if is_last(turn) {
             return;
         }
-        held = window::following(input, held, turn);
-        if held.failed {
-            if !interrupted() {
+        held = window::following(reader, input, held, turn);
+        if let Some(error) = held.failed {
+            if !interrupted(errors, &error) {
                 return;
             }
         }
@@ -52,34 +60,38 @@ fn is_last(turn: Turn) -> bool
 }
 
 // After a read that failed: whether it was only interrupted. Where it was not, says so.
-fn interrupted() -> bool {
-    if os::errno() == libc::EINTR {
+fn interrupted(errors: &impl Print, error: &io::Error) -> bool {
+    if error.kind() == io::ErrorKind::Interrupted {
         return true;
     }
-    os::fail(b"replay: cannot read standard input");
+    program::fail(errors, b"replay: cannot read standard input", error);
     false
 }
 
 // Writes to standard output; where that fails, says so and answers false.
-fn say(text: &[u8]) -> bool {
-    if io::write_all(STDOUT_FILENO, text) {
-        return true;
+fn say(output: &impl Print, errors: &impl Print, text: &[u8]) -> bool {
+    match output.write_all(text) {
+        Ok(()) => true,
+        Err(error) => {
+            program::fail(errors, b"replay: cannot write", &error);
+            false
+        }
     }
-    os::fail(b"replay: cannot write");
-    false
 }
 
-fn replay_input() {
-    let mut input = io::large_buffer();
-    let mut out = io::large_buffer();
+fn replay_input<R: Read>(reader: &mut R, output: &impl Print, errors: &impl Print) {
+    let mut input = [0u8; 65536];
+    let mut out = [0u8; 65536];
     let n = recording::put_heading(&mut out);
-    if say(&out[..n]) {
-        serve(&mut input, &mut out);
+    if say(output, errors, &out[..n]) {
+        serve(reader, output, errors, &mut input, &mut out);
     }
 }
 
-fn put_help() {
+fn put_help(output: &impl Print, errors: &impl Print) {
     say(
+        output,
+        errors,
         b"Usage: replay <RECORDING\n\
           \n\
           Reads the recorded expressions on standard input and writes a line for each: its number, the\n\
@@ -92,27 +104,31 @@ fn put_help() {
     );
 }
 
-fn misused() {
-    io::write_all(
-        STDERR_FILENO,
+fn misused(errors: &impl Print) {
+    let _ = errors.write_all(
         b"replay: takes no argument but --help, and a recording on standard input\n",
     );
 }
 
-fn answer_argument() {
-    let mut argument = io::buffer();
-    let n = os::arg(1, &mut argument);
-    if check::same(&argument[..n], b"--help") {
-        put_help();
+fn answer_argument(rt: &impl Env, output: &impl Print, errors: &impl Print) {
+    let mut argument = [0u8; 4096];
+    let Ok(n) = rt.arg(1, &mut argument) else {
+        misused(errors);
+        return;
+    };
+    if argument[..n] == b"--help"[..] {
+        put_help(output, errors);
         return;
     }
-    misused();
+    misused(errors);
 }
 
-fn main() {
-    match os::arg_count() {
-        1 => replay_input(),
-        2 => answer_argument(),
-        _ => misused(),
+fn main(rt: HostRuntime) {
+    let output = rt.stdout();
+    let errors = rt.stderr();
+    match program::arg_count(&rt) {
+        1 => replay_input(&mut rt.stdin(), &output, &errors),
+        2 => answer_argument(&rt, &output, &errors),
+        _ => misused(&errors),
     }
 }

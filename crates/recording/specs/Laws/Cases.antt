@@ -1,5 +1,5 @@
 -- Short recordings and what they replay as, computed: SPEC.md's examples, each kind of fault, lengths of one, two and three groups. Assumes nothing.
-use Rattle.std.specs.Prelude.{◌≡◌, refl, ℕ, List, [], ◌∷◌, ◌++◌, map, replicate}
+use Rattle.std.specs.Prelude.{◌≡◌, refl, ℕ, List, ◌∷◌, ◌++◌}
 use Rattle.cel_text.specs.Byte.{Text, bytes, ascii, string_byte, blank, ident_byte, alphanumeric}
 use Rattle.cel_text.specs.Reading.{enter, enter_string, past, bare, start, unquote, step}
 use Rattle.cel_text.specs.Answer.{tree_answer}
@@ -8,7 +8,7 @@ use Rattle.cel_policy.specs.Mapping.{typed, lookup, present, element, elements, 
 use Rattle.cel_policy.specs.Answers.{policy_answer}
 use Rattle.lines.specs.Texts.{numeral}
 use Rattle.groups.specs.Groups.{groups, number}
-use Rattle.recording.specs.Replay.{records, line, last_line, reply_to, replayed, heading}
+use Rattle.recording.specs.Replay.{records, line, last_line, reply_to, replayed}
 
 computing : Unit {0}
 unfolding ascii string_byte blank ident_byte alphanumeric enter enter_string past bare start unquote step tree_answer spelling typed lookup present element elements string_array first_of first_child headers_of list_of response_lists response_part list_at request_lists request_of request_part certification_parts certification_of validation_args mapping policy_answer groups number records numeral line last_line reply_to replayed

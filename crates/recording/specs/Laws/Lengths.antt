@@ -1,12 +1,11 @@
 -- There is room for any line: it has at most 64 bytes. Assumes nothing.
-use Rattle.std.specs.Prelude.{◌≡◌, ℕ, ◌+◌, ◌^◌, ◌≤◌, ◌<◌, cond, [], length, eqb}
+use Rattle.std.specs.Prelude.{ℕ, ◌≤◌, ◌<◌, cond, length, eqb}
 use Rattle.std.proofs.Common.{arith, length-append}
 use Rattle.cel_text.specs.Byte.{Text, bytes}
 use Rattle.cel_text.specs.Table.{node_words}
 use Rattle.cel_text.proofs.Laws.Class.{by-test}
 use Rattle.cel_policy.specs.Spans.{span_words}
 use Rattle.cel_policy.proofs.Laws.Refusals.{policy-refusals, policy-within}
-use Rattle.lines.specs.Texts.{numeral}
 use Rattle.lines.specs.Laws.{numeral-length, numeral-length-u64}
 use Rattle.recording.specs.declared.Ending.{Ending}
 use Rattle.recording.specs.declared.Ending.TheVariants.{Complete, BrokenLength, BrokenBody}

@@ -1,9 +1,8 @@
 -- A turn: what it writes and what is owed after it is what was owed before; it fits its room, and goes on as far as it can. Assumes nothing.
-use Rattle.std.specs.Prelude.{◌≡◌, refl, ℕ, zero, suc, ◌+◌, ◌-◌, ◌≤◌, ◌<◌, Bool, true, false, cond, ◌&&◌, [], ◌++◌, leb, eqb}
+use Rattle.std.specs.Prelude.{◌≡◌, refl, ℕ, zero, suc, ◌+◌, ◌-◌, ◌≤◌, ◌<◌, Bool, true, false, [], ◌++◌, leb, eqb}
 use Rattle.std.proofs.Math.Path.{sym, ap}
-use Rattle.std.proofs.Common.{subst, ◌∙◌, arith, append_assoc, length-append, drop-drop, le-leb, leb-true, leb-false}
+use Rattle.std.proofs.Common.{subst, ◌∙◌, arith, append_assoc, length-append, drop-drop, le-leb, leb-true}
 use Rattle.std.proofs.Math.ListN.{length, drop, length-drop}
-use Rattle.std.proofs.lemmas.Bool.{lt-leb}
 use borrow.Table.Steps.{cases}
 use Rattle.cel_text.specs.Byte.{Text}
 use Rattle.cel_text.proofs.Laws.Class.{by-test, both_true}
@@ -15,7 +14,7 @@ use Rattle.recording.specs.declared.window.Event.{Event}
 use Rattle.recording.specs.declared.window.Event.TheVariants.{Body, Skipping, Skipped, Wanting, Last}
 use Rattle.recording.specs.Replay.{reply_to, too_long, refusals}
 use Rattle.recording.specs.Window.{event, part, says, takes, becomes, goes, owed, owed_as}
-use Rattle.recording.specs.Turn.{Turned, begun, after, stepped, line_room, onward, turn_from, max_count, countable, turned}
+use Rattle.recording.specs.Turn.{Turned, begun, stepped, line_room, onward, turn_from, max_count, countable, turned}
 use Rattle.recording.specs.Laws.Event.{event-right, most_held, Moves, event-moves}
 use Rattle.recording.specs.Laws.Lengths.{says-short}
 
