@@ -25,15 +25,15 @@ max_number = 2097151
 unfoldable pub groups : ℕ → List ℕ
 groups n = groups_in 2 n
 
--- a group that another follows, before what is read there: a number of 0 is a last group of 0, which “is not in its shortest form”
+-- a group that another follows, before what is read there: a number of 0 is a last group of 0. “A number whose last group of several is 0 is not in its shortest form.”
 abbrev pub before : (b : ℕ) → Number → Number
 before b (Whole m size) = cond (eqb m 0) Padded (Whole (b - 128 + 128 * m) (suc size))
 before b Cut = Cut
 before b Padded = Padded
 before b TooMany = TooMany
 
--- the number at the front of some bytes, of at most left + 1 groups, and how many groups it has; groups that are “cut short”, that are not in their
--- shortest form, or “more than three”
+-- the number at the front of some bytes, of at most left + 1 groups, and how many groups it has; groups that are cut short, that are not in their
+-- shortest form, or more than three
 abbrev pub number_in : (left : ℕ) → List ℕ → Number
 number_in left [] = Cut
 number_in zero (b ∷ x) = cond (ltb b 128) (Whole b 1) TooMany

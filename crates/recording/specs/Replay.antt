@@ -26,12 +26,12 @@ ends e = record { bodies = []; ending = e }
 abbrev pub first : Text → Recording → Recording
 first t r = record { bodies = t ∷ r.bodies; ending = r.ending }
 
--- “A record is a length and then that many bytes, its body.” A body is broken “where fewer bytes follow than the length says”
+-- “A record is a length and then that many bytes, its body.” “A body is broken where fewer bytes follow than the length says.”
 abbrev pub body_then : (Text → Recording) → (n : ℕ) → Text → (short : Bool) → Recording
 body_then after n x true = ends BrokenBody
 body_then after n x false = first (take n x) (after (drop n x))
 
--- a length is broken “where it is cut short, not in its shortest form, or has more than three groups”
+-- “A length is broken where it is cut short, not in its shortest form, or has more than three groups.”
 abbrev pub record_then : (Text → Recording) → Text → Number → Recording
 record_then after x (Whole n size) = body_then after n (drop size x) (ltb (length (drop size x)) n)
 record_then after x Cut = ends BrokenLength

@@ -1,5 +1,5 @@
 // What the bytes held of a recording tell: one event at a time.
-ghost use Rattle.std.specs.Prelude.{◌≡◌, ◌≤◌, length};
+ghost use Rattle.std.specs.Prelude.{◌≡◌, ◌≤◌};
 ghost use Rattle.groups.specs.declared.Number.TheVariants.{Cut};
 ghost use Rattle.recording.specs.Window.{event, body_event, length_event, skip_event};
 

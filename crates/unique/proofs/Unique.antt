@@ -68,6 +68,13 @@ use denote.RattleType.{RattleType}
 use mathlib.Core.List.{Memᴰ}
 use denote.Param.Laws.{Laws}
 use mir.Syntax.{Dict}
+use Rattle.groups.specs.Groups.{number}
+use Rattle.groups.proofs.read_number
+use Rattle.recording.specs.Replay.{heading}
+use Rattle.recording.specs.Turn.{beginning, turned, turn_of}
+use Rattle.recording.proofs.start as start_replay
+use Rattle.recording.proofs.put_heading
+use Rattle.recording.proofs.advance
 use Rattle.unique.specs.Unique.{Kept}
 
 -- two things that equal a third are equal
@@ -462,6 +469,50 @@ pub report-text :
 report-text =
     record {
       one = λ κs a r s v w e f. let o = wrote_one e f in (o.0, λ i. (tt, (o.1 i, tt)));
+      asks = λ κs a. tt;
+      says = λ κs a r v e. e;
+    }
+
+-- ---- recordings
+
+-- `groups::read_number`
+pub number-read :
+    Kept read_number.Kinds.ps read_number.Kinds.r read_number.Reads.Asked read_number.Reads.Post (λ κs a r v. r ≡ number a.0.now)
+number-read =
+    record {
+      one = λ κs a r s v w e f. (meet e f, refl);
+      asks = λ κs a. tt;
+      says = λ κs a r v e. e;
+    }
+
+-- `recording::start`
+pub start-replay :
+    Kept start_replay.Kinds.ps start_replay.Kinds.r start_replay.Reads.Asked start_replay.Reads.Post (λ κs a r v. r ≡ beginning)
+start-replay =
+    record {
+      one = λ κs a r s v w e f. (meet e f, refl);
+      asks = λ κs a. tt;
+      says = λ κs a r v e. e;
+    }
+
+-- `recording::put_heading`
+pub put-heading :
+    Kept put_heading.Kinds.ps put_heading.Kinds.r put_heading.Reads.Asked put_heading.Reads.Post (λ κs a r v. Wrote a.0.now v.0 0 r heading)
+put-heading =
+    record {
+      one = λ κs a r s v w e f. let o = wrote_one e f in (o.0, λ i. (o.1 i, tt));
+      asks = λ κs a. tt;
+      says = λ κs a r v e. e;
+    }
+
+-- `recording::advance`
+pub advance-turn :
+    Kept advance.Kinds.ps advance.Kinds.r advance.Reads.Asked advance.Reads.Post (λ κs a r v.
+    (r ≡ turn_of (turned a.0 a.1.0.now a.1.1.0 (length a.1.1.1.0.now)))
+    × Wrote a.1.1.1.0.now v.1.1.1.0 0 r.written (turned a.0 a.1.0.now a.1.1.0 (length a.1.1.1.0.now)).wrote)
+advance-turn =
+    record {
+      one = λ κs a r s v w e f. let o = wrote_one e.1 f.1 in (meet e.0 f.0, λ i. (tt, (tt, (tt, (o.1 i, tt)))));
       asks = λ κs a. tt;
       says = λ κs a r v e. e;
     }
