@@ -1,8 +1,8 @@
 -- Three things of each public function, over its own contract and not over a copy: any two answers that meet it are equal, and so is afterwards every
 -- word and byte that was lent; it asks nothing of its caller; and it gives the definition that is named here. A clause that is loosened, dropped or added
 -- fails here. The one exception to the first is `lines::next`, which reads the world: no contract can say what is read. Assumes nothing.
-use Rattle.std.specs.Prelude.{◌≡◌, refl, ℕ, ◌+◌, ◌-◌, List, ◌++◌, length, take, replicate}
-use Rattle.std.proofs.Common.{sym, ◌∙◌}
+use Rattle.std.specs.Prelude.{◌≡◌, refl, ℕ, ◌+◌, ◌-◌, List, [], ◌++◌, length, take, replicate}
+use Rattle.std.proofs.Common.{subst, sym, ◌∙◌}
 use borrow.Fn.Kinds.{Dens}
 use Rattle.cel_text.specs.Byte.{string_byte}
 use Rattle.cel_text.specs.Table.{row_at}
@@ -66,6 +66,7 @@ use contract.Lifetimes.{Lfts}
 use borrow.Fn.Kinds.{Dens}
 use denote.RattleType.{RattleType}
 use mathlib.Core.List.{Memᴰ}
+use mathlib.Core.Logic.{∥∥₁_elim, ∥∥₁_prop}
 use denote.Param.Laws.{Laws}
 use mir.Syntax.{Dict}
 use Rattle.groups.specs.Groups.{number}
@@ -75,7 +76,7 @@ use Rattle.recording.specs.Turn.{beginning, turned, turn_of}
 use Rattle.recording.proofs.start as start_replay
 use Rattle.recording.proofs.put_heading
 use Rattle.recording.proofs.advance
-use Rattle.unique.specs.Unique.{Kept}
+use Rattle.unique.specs.Unique.{AsksNothing, Kept}
 
 -- two things that equal a third are equal
 meet : {X : Type 0} {a b c : X} → a ≡ c → b ≡ c → a ≡ b
@@ -302,6 +303,9 @@ canonicalise-for-c =
 
 -- ---- lines, pages and reports
 
+not-in : (k : ℕ) → Memᴰ k [] → ⊥
+not-in k h = elim h [ ]
+
 -- `lines::none`
 pub no_line :
     Kept none.Kinds.ps none.Kinds.r none.Reads.Asked none.Reads.Post (λ κs a r v.
@@ -313,11 +317,15 @@ no_line =
       says = λ κs a r v e. e;
     }
 
--- `lines::next`, which asks nothing either, whatever reader it is given: no more than that what the reader borrows lives as long as the call, which holds
--- of every value
-pub next-asks : (R : RattleType) (laws : Laws R) (reads : Ghosts R.Denot) (dict : Dict) (κs : Lfts 3) (a : Dens κs (next.Kinds.ps R laws))
+-- `lines::next`, which asks nothing either of a reader that borrows nothing, as standard input does
+pub next-asks : (R : RattleType) (laws : Laws R) (reads : Ghosts R.Denot) (dict : Dict) → R.lives ≡ []
+    → AsksNothing (next.Kinds.ps R laws) (next.Reads.Asked R laws reads dict)
+next-asks R laws reads dict none κs a k m = ∥∥₁_elim (subst (λ (l : List ℕ). ∥ Memᴰ k l ∥₁) none m) ∥∥₁_prop (λ h. absurd (not-in k h))
+
+-- and of any other no more than that what it borrows lives as long as the call, which holds of every value
+pub next-asks-borrowed : (R : RattleType) (laws : Laws R) (reads : Ghosts R.Denot) (dict : Dict) (κs : Lfts 3) (a : Dens κs (next.Kinds.ps R laws))
     → ((k : ℕ) → ∥ Memᴰ k R.lives ∥₁ → ∥ Memᴰ k κs.1.1.0 ∥₁) → next.Reads.Asked R laws reads dict κs a
-next-asks R laws reads dict κs a lives = lives
+next-asks-borrowed R laws reads dict κs a lives = lives
 
 -- `lines::find`
 pub find-byte :

@@ -1,3 +1,3 @@
 // Each public function has one answer: any two that meet its contract are equal, and so is all that they leave in what was lent.
-// The statements are in specs/, over the contracts themselves. There is no code here, and nothing rests on this crate.
+// What is said is in specs/, and of which function in proofs/, over the contracts themselves. There is no code here, and nothing rests on this crate.
 #![tactic(auto)]
