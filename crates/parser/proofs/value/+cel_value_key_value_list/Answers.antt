@@ -1,6 +1,6 @@
 -- `cel_value`, `key_value` and `list` meet their contracts: the opener, the key, the comma and the closer that the code finds are what the machine
 -- does there, and a child's reading goes into its list's. Assumes nothing.
-use Rattle.std.proofs.Common.{◌≡◌, suc, ◌-◌, ◌≤◌, length, sym, refl, ◌∙◌, add-one, arith}
+use Rattle.std.proofs.Common.{◌≡◌, suc, ◌-◌, ◌≤◌, length, sym, refl, ◌∙◌, add-one, arith, rules}
 use Rattle.cel_text.specs.Byte.{blank}
 use Rattle.parser.specs.Steps.{Entered}
 use Rattle.parser.specs.declared.Step.TheVariants.{Next, Refused}
@@ -15,6 +15,10 @@ cel_value-returns-then-kind-eq-STRING t c =
     let h = c.opening-head in
     string-up h.ensures a.node.0 a.left c.in-Past.ensures
     a.keyfrom.0 a.keyto.0 a.parent.0 a.table.now c.string.new.table c.if-kind-eq-STRING.true c.string.result c.string.ensures
+
+-- the depth that is left falls here
+pub cel_value-list-requires : goal.cel_value-list-requires
+cel_value-list-requires t c = search rules
 
 pub cel_value-returns : goal.cel_value-returns
 cel_value-returns t c =
