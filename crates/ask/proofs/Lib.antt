@@ -1,2 +1,2 @@
 -- Lemmas on what the contracts cite.
-mod Words
+mod Held

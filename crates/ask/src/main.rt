@@ -4,39 +4,33 @@
 
 mod answers;
 mod entry;
-mod every;
 mod help;
+mod output;
 mod prints;
 mod reports;
 mod request;
 mod room;
 mod table;
 mod verdicts;
-mod write;
 
+use output::Output;
 use std::env::Env;
 use std::io::Read;
 
-// Nothing says that the input ends, so the turns are counted down from a number that no run uses up.
-fn serve<R: Read>(
-    reader: &mut R,
-    output: &impl Print,
-    errors: &impl Print,
-    input: &mut [u8],
-    out: &mut [u8],
-) {
-    let mut line = lines::none();
-    let mut turns = u64::MAX;
-    while turns > 0 {
-        line = lines::next(reader, input, line);
-        if !line.found {
+// A request and its answer, one after the other, until the input ends or an answer cannot be written.
+fn serve<R: Read>(reader: &mut R, output: &impl Print, errors: &impl Print) {
+    let mut input = [0u8; 65536];
+    let mut out = Output::new();
+    let mut last = lines::none();
+    for _ in 0..u64::MAX {
+        last = lines::next(reader, &mut input, last);
+        let Some(line) = last else {
+            return;
+        };
+        request::answer_line(&mut out, &input, line);
+        if !say(output, errors, out.bytes()) {
             return;
         }
-        let n = request::answer_line(input, line, out);
-        if !say(output, errors, &out[..n]) {
-            return;
-        }
-        turns -= 1;
     }
 }
 
@@ -49,12 +43,6 @@ fn say(output: &impl Print, errors: &impl Print, text: &[u8]) -> bool {
             false
         }
     }
-}
-
-fn serve_input<R: Read>(reader: &mut R, output: &impl Print, errors: &impl Print) {
-    let mut input = [0u8; 65536];
-    let mut out = [0u8; 65536];
-    serve(reader, output, errors, &mut input, &mut out);
 }
 
 fn misused(errors: &impl Print) {
@@ -80,7 +68,7 @@ fn main(rt: HostRuntime) {
     let output = rt.stdout();
     let errors = rt.stderr();
     match program::arg_count(&rt) {
-        1 => serve_input(&mut rt.stdin(), &output, &errors),
+        1 => serve(&mut rt.stdin(), &output, &errors),
         2 => answer_argument(&rt, &output, &errors),
         _ => misused(&errors),
     }

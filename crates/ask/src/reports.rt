@@ -1,18 +1,12 @@
 // `reports`: the whole report on a text, and a blank line.
-ghost use Rattle.std.specs.Prelude.{◌≤◌, length};
+use crate::output::Output;
+use crate::room::LENT_BYTES;
 
-use crate::{room, write};
-use lines::Count;
-
-// The answer to a text in hex; its length.
-pub(crate) fn answer(field: &[u8], out: &mut [u8]) -> usize
-    ensures { result ≤ length out.new }
-{
-    let mut text = room::bytes();
-    let count = lines::unhex(field, &mut text);
-    let Count::Number(n) = count else {
-        return write::put_bad(out);
-    };
-    let end = report::report(&text[..n], out);
-    write::put(out, end, b"\n")
+// The answer to a text in hex.
+pub(crate) fn answer(out: &mut Output, field: &[u8]) -> Option<()> {
+    let mut text = LENT_BYTES;
+    let n = lines::unhex(field, &mut text)?;
+    out.report(&text[..n]);
+    out.put(b"\n");
+    Some(())
 }
