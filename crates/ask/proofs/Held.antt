@@ -2,10 +2,10 @@
 use Rattle.std.specs.Prelude.{◌≡◌, ℕ, ◌+◌, ◌-◌, ◌≤◌, List, [], ◌++◌, length, take, drop}
 use Rattle.std.proofs.Common.{sym, ap, ◌∙◌, arith, length-append, length-take-le, take_all, append-nil, drop_of_length-le}
 use Rattle.std.proofs.Math.Decide.{dec_le}
-use Rattle.std.proofs.Math.Seq.{take-append_seam, take-append-add, length-sets}
-use Rattle.std.proofs.lemmas.List.Edits.{sets, sets-eq}
+use Rattle.std.proofs.Math.Seq.{take-append_seam, take-append-add}
+use Rattle.std.proofs.lemmas.List.Edits.{sets-eq}
 use Rattle.pieces.specs.Pieces.{Wrote}
-use Rattle.pieces.specs.Laws.{past-cut, sets_first, wrote-whole, wrote-within, wrote-length}
+use Rattle.pieces.specs.Laws.{past-cut, sets_first, wrote-whole}
 
 module _ {out out' : List ℕ} {at past : ℕ} {t : List ℕ} (l : at ≤ length out) (w : Wrote out out' at past t) where
   abbrev before : List ℕ
@@ -31,7 +31,7 @@ module _ {out out' : List ℕ} {at past : ℕ} {t : List ℕ} (l : at ≤ length
       let none : drop (at + length (take room t)) out ≡ [] = drop_of_length-le out (omega (arith, first)) in
       let end : past ≡ length out = w.place ∙ past-cut out at t h ∙ omega arith in
       let there : out' ≡ before ++ take room t =
-          w.buffer ∙ sym (sets_first out at t l h) ∙ sets-eq (take room t) out at (omega (arith, first)) ∙ ap (λ (u : List ℕ). (before ++ take room t) ++ u) none ∙ append-nil (before ++ take room t)
+      w.buffer ∙ sym (sets_first out at t l h) ∙ sets-eq (take room t) out at (omega (arith, first)) ∙ ap (λ (u : List ℕ). (before ++ take room t) ++ u) none ∙ append-nil (before ++ take room t)
       in
       let size : length (before ++ take room t) ≡ length out = omega (arith, length-append before (take room t), long, first) in
       let whole : length out ≡ length before + room = omega (arith, long) in

@@ -1,10 +1,6 @@
 // What a request looks like, for a person.
 
-pub(crate) fn put_help(output: &impl Print, errors: &impl Print) {
-    crate::say(
-        output,
-        errors,
-        b"Usage: ask <REQUESTS\n\
+pub(crate) const HELP: &[u8] = b"Usage: ask <REQUESTS\n\
           \n\
           Each line of standard input is a request: a verb, then its fields, with a tab before each. Bytes are\n\
           in hex, numbers in decimal, and the numbers of a list have commas between them. A field in [ ] may\n\
@@ -31,6 +27,4 @@ pub(crate) fn put_help(output: &impl Print, errors: &impl Print) {
           \x20   printf 'reports\\t78\\n' | ask\n\
           \n\
           Any other line gets: bad line. A line has fewer than 65536 bytes, a text or an output at most 16384,\n\
-          a list at most 4096 numbers.\n",
-    );
-}
+          a list at most 4096 numbers.\n";

@@ -14,11 +14,11 @@ mod table;
 mod verdicts;
 
 use output::Output;
-use std::env::Env;
+use program::Console;
 use std::io::Read;
 
 // A request and its answer, one after the other, until the input ends or an answer cannot be written.
-fn serve<R: Read>(reader: &mut R, output: &impl Print, errors: &impl Print) {
+fn serve<R: Read, O: Print, E: Print>(reader: &mut R, console: &Console<'_, O, E>) {
     let mut input = [0u8; 65536];
     let mut out = Output::new();
     let mut last = lines::none();
@@ -28,48 +28,23 @@ fn serve<R: Read>(reader: &mut R, output: &impl Print, errors: &impl Print) {
             return;
         };
         request::answer_line(&mut out, &input, line);
-        if !say(output, errors, out.bytes()) {
+        if !console.say(out.bytes()) {
             return;
         }
     }
 }
 
-// Writes to standard output; where that fails, says so and answers false.
-fn say(output: &impl Print, errors: &impl Print, text: &[u8]) -> bool {
-    match output.write_all(text) {
-        Ok(()) => true,
-        Err(error) => {
-            program::fail(errors, b"ask: cannot write", &error);
-            false
-        }
-    }
-}
-
-fn misused(errors: &impl Print) {
-    let _ = errors.write_all(
-        b"ask: takes no argument but --help, and requests on standard input\n",
-    );
-}
-
-fn answer_argument(rt: &impl Env, output: &impl Print, errors: &impl Print) {
-    let mut argument = [0u8; 4096];
-    let Ok(n) = rt.arg(1, &mut argument) else {
-        misused(errors);
-        return;
-    };
-    if argument[..n] == b"--help"[..] {
-        help::put_help(output, errors);
-        return;
-    }
-    misused(errors);
-}
-
 fn main(rt: HostRuntime) {
-    let output = rt.stdout();
-    let errors = rt.stderr();
+    let console = Console {
+        output: &rt.stdout(),
+        errors: &rt.stderr(),
+        unwritten: b"ask: cannot write",
+        help: help::HELP,
+        misuse: b"ask: takes no argument but --help, and requests on standard input\n",
+    };
     match program::arg_count(&rt) {
-        1 => serve(&mut rt.stdin(), &output, &errors),
-        2 => answer_argument(&rt, &output, &errors),
-        _ => misused(&errors),
+        1 => serve(&mut rt.stdin(), &console),
+        2 => console.answer_argument(&rt),
+        _ => console.misused(),
     }
 }
