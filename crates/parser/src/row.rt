@@ -5,6 +5,7 @@ ghost use Rattle.cel_text.specs.Reading.{max_nodes};
 ghost use Rattle.cel_text.specs.Table.{row_words, words_at, row_at};
 ghost use Rattle.parser.specs.Rows.{row_told};
 
+use crate::value::Slot;
 use crate::{Node, Place, ROW_WORDS};
 
 // A parent's word: its number plus 1, 0 where there is none.
@@ -60,20 +61,16 @@ fn no_row() -> Row
 }
 
 // The words that are known where a node opens: kind, name or content, key, parent.
-pub(crate) fn open_row(
-    table: &mut [u32],
-    node: Node,
-    kind: u32,
-    from: Place,
-    to: Place,
-    keyfrom: Place,
-    keyto: Place,
-    parent: Parent,
-)
-    requires node_in_bounds { row_words * suc node.0 ≤ length table.old }
-    requires from_bound { (from.0 < 2 ^ 32) × (to.0 < 2 ^ 32) × (keyfrom.0 < 2 ^ 32) × (keyto.0 < 2 ^ 32) }
-    ensures { table.new ≡ sets table.old (row_words * node.0) (kind ∷ from.0 ∷ to.0 ∷ keyfrom.0 ∷ keyto.0 ∷ parent.0 ∷ []) }
+pub(crate) fn open_row(table: &mut [u32], kind: u32, from: Place, to: Place, slot: Slot)
+    requires node_in_bounds { row_words * suc slot.node.0 ≤ length table.old }
+    requires from_bound { (from.0 < 2 ^ 32) × (to.0 < 2 ^ 32) × (slot.key.from.0 < 2 ^ 32) × (slot.key.to.0 < 2 ^ 32) }
+    ensures { table.new ≡ sets table.old (row_words * slot.node.0) (kind ∷ from.0 ∷ to.0 ∷ slot.key.from.0 ∷ slot.key.to.0 ∷ slot.parent.0 ∷ []) }
 {
+    let node = slot.node;
+    let key = slot.key;
+    let keyfrom = key.from;
+    let keyto = key.to;
+    let parent = slot.parent;
     let at = ROW_WORDS * node.0;
     table[at] = kind;
     table[at + 1] = from.0 as u32;

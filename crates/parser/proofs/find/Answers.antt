@@ -20,4 +20,4 @@ returns c =
     let a = c.args in
     find-value a.text.now a.table.now c.cel_value.new.table c.ascii_end-plain.result.0
     c.if-text-gt-MAX_TEXT.false c.ascii_end-plain.ensures c.if-plain-text.false
-    c.cel_value.result c.cel_value.ensures
+    c.cel_value.result (rw c.root.ensures at c.cel_value.ensures)

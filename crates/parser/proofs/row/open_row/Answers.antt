@@ -24,4 +24,5 @@ shape_of-table c = simp length-set
 pub returns : goal.returns
 returns c =
     let a = c.args in
-    put_six a.table.now _ a.kind a.from.0 a.to.0 a.keyfrom.0 a.keyto.0 a.parent.0
+    let s = a.slot in
+    put_six a.table.now _ a.kind a.from.0 a.to.0 s.key.from.0 s.key.to.0 s.parent.0
