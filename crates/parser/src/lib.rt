@@ -52,6 +52,13 @@ impl Fault {
             Fault::TooMany => TOO_MANY,
         }
     }
+
+    // The refusal for this reason, at this place.
+    pub(crate) fn at(self, place: Place) -> Refused
+        ensures { result ≡ record { fault = self; place = place } }
+    {
+        Refused { fault: self, place }
+    }
 }
 
 // A refusal, and its place.
@@ -169,17 +176,11 @@ fn find(text: &[u8], table: &mut [u32]) -> Result<Read, Refused>
     ensures { Finds text.now table.old table.new result }
 {
     if MAX_TEXT < text.len() {
-        return Err(Refused {
-            fault: Fault::TextTooLong,
-            place: Place(MAX_TEXT),
-        });
+        return Err(Fault::TextTooLong.at(Place(MAX_TEXT)));
     }
     let plain = scan::ascii_end(text);
     if plain.0 < text.len() {
-        return Err(Refused {
-            fault: Fault::NotAscii,
-            place: plain,
-        });
+        return Err(Fault::NotAscii.at(plain));
     }
     value::cel_value(text, table, value::root(), MAX_DEPTH)
 }

@@ -66,17 +66,13 @@ pub(crate) fn open_row(table: &mut [u32], kind: u32, from: Place, to: Place, slo
     requires from_bound { (from.0 < 2 ^ 32) × (to.0 < 2 ^ 32) × (slot.key.from.0 < 2 ^ 32) × (slot.key.to.0 < 2 ^ 32) }
     ensures { table.new ≡ sets table.old (row_words * slot.node.0) (kind ∷ from.0 ∷ to.0 ∷ slot.key.from.0 ∷ slot.key.to.0 ∷ slot.parent.0 ∷ []) }
 {
-    let node = slot.node;
-    let key = slot.key;
-    let keyfrom = key.from;
-    let keyto = key.to;
-    let parent = slot.parent;
+    let Slot { node, key, parent } = slot;
     let at = ROW_WORDS * node.0;
     table[at] = kind;
     table[at + 1] = from.0 as u32;
     table[at + 2] = to.0 as u32;
-    table[at + 3] = keyfrom.0 as u32;
-    table[at + 4] = keyto.0 as u32;
+    table[at + 3] = key.from.0 as u32;
+    table[at + 4] = key.to.0 as u32;
     table[at + 5] = parent.0;
 }
 

@@ -8,7 +8,7 @@ ghost use Rattle.parser.specs.Kinds.{kind_told, opener_kind, shown};
 ghost use Rattle.parser.specs.Steps.{Begins, Opens, Labels, Limited, Valued, StringRead, ChildRead, Listed, no_key, root_slot};
 
 use crate::row::Parent;
-use crate::scan::Class;
+use crate::scan::{Class, Name};
 use crate::{
     ARRAY, FUNCTION, Fault, MAX_NODES, Node, OBJECT, Place, Read, Refused, STRING, row, scan,
 };
@@ -90,15 +90,6 @@ pub(crate) struct Head {
     pub at: Place,
 }
 
-fn syntax(place: Place) -> Refused
-    ensures { result ≡ record { fault = Fault.Syntax; place = place } }
-{
-    Refused {
-        fault: Fault::Syntax,
-        place,
-    }
-}
-
 // The byte b as an opener, after an identifier that is empty or not.
 fn opener_kind(b: u8, empty: bool) -> Option<Opener>
     ensures { result ≡ opener_kind empty b }
@@ -127,12 +118,9 @@ fn opening(text: &[u8], at: Place) -> Result<Head, Refused>
     requires { at.0 ≤ length text.now }
     ensures { Begins text.now at.0 result }
 {
-    let name = scan::trimmed_ident(text, at);
-    let from = name.from;
-    let to = name.to;
-    let at = name.end;
+    let Name { from, to, end: at } = scan::trimmed_ident(text, at);
     let Some(opener) = opener_kind(scan::peek(text, at), from.0 == to.0) else {
-        return Err(syntax(at));
+        return Err(Fault::Syntax.at(at));
     };
     Ok(Head {
         opener,
@@ -149,17 +137,11 @@ fn enter(opener: Opener, at: Place, node: Node, left: usize) -> Result<Place, Re
 {
     if let Opener::Container(_) = opener {
         if left == 0 {
-            return Err(Refused {
-                fault: Fault::TooDeep,
-                place: at,
-            });
+            return Err(Fault::TooDeep.at(at));
         }
     }
     if node.0 == MAX_NODES {
-        return Err(Refused {
-            fault: Fault::TooMany,
-            place: at,
-        });
+        return Err(Fault::TooMany.at(at));
     }
     Ok(Place(at.0 + 1))
 }
@@ -207,7 +189,7 @@ fn string(text: &[u8], table: &mut [u32], at: Place, slot: Slot) -> Result<Read,
     let to = scan::run_of(text, at, Class::StringByte);
     let end = scan::run_of(text, to, Class::Blank);
     if scan::peek(text, end) != b'"' {
-        return Err(syntax(end));
+        return Err(Fault::Syntax.at(end));
     }
     let node = slot.node;
     let next = Node(node.0 + 1);
@@ -228,12 +210,9 @@ fn label(text: &[u8], at: Place, kind: Kind) -> Result<Key, Refused>
     let Kind::Object = kind else {
         return Ok(Key::none(at));
     };
-    let name = scan::trimmed_ident(text, at);
-    let from = name.from;
-    let to = name.to;
-    let end = name.end;
+    let Name { from, to, end } = scan::trimmed_ident(text, at);
     if scan::peek(text, end) != b':' {
-        return Err(syntax(end));
+        return Err(Fault::Syntax.at(end));
     }
     Ok(Key {
         from,
@@ -308,7 +287,7 @@ fn list(
             });
         }
         if b != b',' {
-            return Err(syntax(stop));
+            return Err(Fault::Syntax.at(stop));
         }
         from = Place(stop.0 + 1);
     }

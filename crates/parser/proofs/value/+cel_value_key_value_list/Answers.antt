@@ -70,8 +70,8 @@ list-returns-then-b-ne44 t c =
     let l = c.loop-read.invariant in
     let r = c.run_of-stop in
     list-from a.text.now a.table.now v.new.table a.at.0 f.result.0 a.node.0 (kind_told a.kind) a.left f.ensures
-    (rw f.ensures (end_later blank a.text.now a.at.0)) (Err c.syntax.result)
-    (rw c.syntax.ensures (neither-refused
+    (rw f.ensures (end_later blank a.text.now a.at.0)) (Err c.at.result)
+    (rw c.at.ensures (neither-refused
     (child-read l c.under-parent.ensures c.max-depth.ensures (whole_by l v.new.table c.under-parent.result.0 c.in-Ok.is v.ensures))
     r.result.0 r.ensures (λ e. c.if-b-close.false (c.peek-b.ensures ∙ e ∙ sym c.closer-close.ensures)) (λ e. c.if-b-ne44.true (c.peek-b.ensures ∙ e))))
 

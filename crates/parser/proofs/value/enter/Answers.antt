@@ -4,14 +4,14 @@ use Rattle.parser.proofs.value.enter.Goals as goal
 use Rattle.parser.proofs.value.enter.Goals.{in-Container+else-left-eq0, in_default}
 
 pub returns-then-left-eq0 : goal.returns-then-left-eq0
-returns-then-left-eq0 c = rw c.in-Container.is (stopped-deep c.args.at.0 c.args.node.0 c.args.left c.in-Container.field-0 c.if-left-eq0.true)
+returns-then-left-eq0 c = rw (c.in-Container.is, c.at.ensures) (stopped-deep c.args.at.0 c.args.node.0 c.args.left c.in-Container.field-0 c.if-left-eq0.true)
 
 pub returns-then-node-eq-MAX_NODES : goal.returns-then-node-eq-MAX_NODES
 returns-then-node-eq-MAX_NODES c =
     let a = c.args in
-    stopped-full a.at.0 a.node.0 a.left a.opener
+    rw c.at-then-node-eq-MAX_NODES.ensures (stopped-full a.at.0 a.node.0 a.left a.opener
     (λ k e z. elim c.match-opener.branch [ in-Container+else-left-eq0 w ↦ w.if-left-eq0.false z | in_default w ↦ let q = w.in_default.is in cc ])
-    c.if-node-eq-MAX_NODES.true
+    c.if-node-eq-MAX_NODES.true)
 
 pub returns : goal.returns
 returns c =
