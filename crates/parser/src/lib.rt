@@ -14,11 +14,11 @@ ghost use Rattle.parser.specs.Faults.{number_of};
 ghost use Rattle.parser.specs.Found.{told, Finds, Small, answer_of, accepted_with, stale_from};
 
 // A place in the text: how many bytes stand before it.
-#[derive(Clone, Copy)]
+#[derive(Clone, Copy, Default)]
 pub struct Place(pub usize);
 
 // A node's number.
-#[derive(Clone, Copy)]
+#[derive(Clone, Copy, Default)]
 pub struct Node(pub usize);
 
 // What was read: where reading goes on, the number of the next node and the depth.

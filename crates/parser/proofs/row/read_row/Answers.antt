@@ -10,7 +10,7 @@ returns-then-table-node c =
     let n = c.args.node.0 in
     let w = c.args.table.now in
     let less : length w < row_words * suc n = omega arith in
-    c.no_row.ensures ∙ rw (lt-leb (row_words * suc n) (length w) less)
+    rw (lt-leb (row_words * suc n) (length w) less) (cc)
 
 pub returns : goal.returns
 returns c =
