@@ -11,6 +11,7 @@ use Rattle.parser.specs.declared.value.Opener.{Opener}
 use Rattle.parser.specs.Run.{end_of, NamedAt}
 use Rattle.parser.specs.Kinds.{opener_kind, opens, shown}
 use Rattle.parser.specs.Steps.{reads, goes_on}
+use Rattle.parser.proofs.Classes.{blank-zero}
 use Rattle.parser.proofs.Runs.{end-stop, end_more, end-other, class-within}
 
 -- what a byte does in a state
@@ -78,10 +79,6 @@ over f st h x p = over-lead (drop p x) p ∙ ap (run string_set limits st (end_o
 
 over-before : (w : Due) (x : Text) (p : ℕ) → reads (before w) x p ≡ reads (before w) x (end_of blank x p)
 over-before w x p = over blank (before w) (λ p b t. unfold step start in rw t) x p
-
-blank-zero : blank 0 ≡ false
-unfolding blank
-blank-zero = refl
 
 ident-zero : ident_byte 0 ≡ false
 unfolding ident_byte alphanumeric

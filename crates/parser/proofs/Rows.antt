@@ -1,6 +1,5 @@
 -- Rows put into a table, one after the other or out of order, and how many words they take. Assumes nothing.
-use Rattle.std.proofs.Common.{◌≡◌, ℕ, suc, ◌+◌, ◌-◌, ◌*◌, ◌<◌, ◌≤◌, [], ◌∷◌, ◌++◌, length, take, drop, set, replicate, sym, refl, ap, ◌∙◌, append_assoc, drop-drop, append-nil, add-one, arith, length-set, take_all, take-suc-set}
-use lib.ListN.{replicate-append-replicate}
+use Rattle.std.proofs.Common.{◌≡◌, ℕ, suc, ◌+◌, ◌*◌, ◌<◌, ◌≤◌, [], ◌∷◌, ◌++◌, length, take, drop, set, sym, refl, ap, ◌∙◌, append_assoc, drop-drop, arith}
 use lib.Seq.{sets, sets-eq, set_comm}
 use Rattle.cel_text.specs.Tree.{Kind, Key, Tree, string, container, Trees, ◌▸◌∶◌, nodes_all, count}
 use Rattle.cel_text.specs.Table.{Words, rows_of, rows_all, kind_number, key_from, key_to, string_kind, row_words}
