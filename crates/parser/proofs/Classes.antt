@@ -11,6 +11,10 @@ pub space-blank : blank 32 ≡ true
 unfolding blank
 space-blank = refl
 
+pub blank-zero : blank 0 ≡ false
+unfolding blank
+blank-zero = refl
+
 -- past the space there is no blank
 pub past-blank : (b : ℕ) → 32 < b → blank b ≡ false
 unfolding blank

@@ -1,18 +1,16 @@
 -- The steps of reading a list: a child's key, the children so far, the closer. Assumes nothing.
-use Rattle.std.proofs.Common.{◌≡◌, ℕ, suc, ◌+◌, ◌*◌, ◌<◌, ◌≤◌, max, eqb, [], ◌∷◌, length, get_or, drop, sym, refl, ap, ◌∙◌, add-one, arith, ne_eqb}
+use Rattle.std.proofs.Common.{◌≡◌, ℕ, suc, ◌+◌, ◌*◌, ◌<◌, ◌≤◌, max, [], ◌∷◌, length, get_or, drop, sym, refl, ap, ◌∙◌, add-one, arith, ne_eqb}
 use lib.Seq.{sets, length-sets}
-use borrow.Table.Steps.{cases}
 use Rattle.cel_text.specs.Byte.{Text, blank, colon, comma}
 use Rattle.cel_text.specs.Tree.{Kind, array, object, function, closer, Key, key, unkeyed, container, Trees, ∅, ◌▸◌∶◌, nodes_all, depth_all, count}
 use Rattle.cel_text.specs.Reading.{Stack, inside, Frame, value, entry, State, before, begun, after, Step, go, refuse, syntax, child, fresh, past, limits, max_nodes, with_key}
-use Rattle.cel_text.specs.Table.{Words, kind_number, rows_all, row_words}
+use Rattle.cel_text.specs.Table.{Words, rows_all, row_words}
 use Rattle.cel_text.specs.Answer.{fault_number}
 use Rattle.cel_text.proofs.Laws.Run.{whole-resumes}
 use Rattle.parser.specs.Set.{string_set}
 use Rattle.parser.specs.declared.Read.{Read}
 use Rattle.parser.specs.declared.value.Key.{Key as Found}
 use Rattle.parser.specs.Run.{end_of, NamedAt}
-use Rattle.parser.specs.Kinds.{kind_of}
 use Rattle.parser.specs.Steps.{reads, goes_on, Around, RefusedBy, Sized, WholeValue, framed, Keyed, WholeChild, ChildRefused, WholeList}
 use Rattle.parser.proofs.Runs.{end-within, byte-within}
 use Rattle.parser.proofs.Machine.{over-key, begun-closes, begun-child, after-closes, after-comma, after-other}
@@ -56,20 +54,6 @@ module _ {x : Text} {p kf kt e : ℕ} (named : NamedAt x p kf kt e) (hp : p ≤ 
             ∙ ap (λ (s : Step). goes_on s x e) (entry-stops K (framed object o from to ts unkeyed) kf kt e (get_or x e 0) h);
         within = (name-bounds x named hp).within;
       }
-
--- a child that is no entry has none
-pub key-none : (x : Text) (p kind : ℕ) (k : Found) → p ≤ length x → (kind ≡ kind_number object → ⊥) → k.from.0 ≡ 0 → k.to.0 ≡ 0 → k.due.0 ≡ p → Keyed x (kind_of kind) p k
-key-none x p kind k hp h hf ht hd =
-    record {
-      label = unkeyed;
-      keyfrom = sym hf;
-      keyto = sym ht;
-      due = λ K o from to ts. rw hd (cases (eqb kind (kind_number array)) (λ t. rw t) (λ t. rw (t, ne_eqb kind (kind_number object) h)));
-      later = omega (arith, hd);
-      within = omega (arith, hd);
-      from_in = omega (arith, hf);
-      to_in = omega (arith, ht);
-    }
 
 -- the stack around a child, whatever the child's key
 around-key : {K : Stack} {c : Kind} {o from to n left : ℕ} {ts : Trees} {k : Key} (k' : Key)

@@ -1,16 +1,17 @@
 -- What the machine of `cel_text` does over what the steps of reading find: a byte, a run, a name, an opener, a key. Assumes nothing.
-use Rattle.std.proofs.Common.{◌≡◌, ℕ, zero, suc, ◌+◌, Bool, true, false, cond, eqb, [], ◌∷◌, get_or, drop, sym, refl, ap, ◌∙◌, add-zero, arith, drop-drop, eq-eqb, ne_eqb, eqb-true}
+use Rattle.std.proofs.Common.{◌≡◌, ℕ, zero, suc, ◌+◌, Bool, true, false, cond, eqb, Option, Some, None, [], ◌∷◌, get_or, drop, sym, refl, ap, ◌∙◌, add-zero, arith, drop-drop, eq-eqb, ne_eqb, eqb-true}
 use borrow.Table.Steps.{cases}
 use Rattle.cel_text.specs.Byte.{Text, blank, ident_byte, string_byte, alphanumeric, lead, comma, quote}
 use Rattle.cel_text.specs.Tree.{Kind, array, object, function, opener, closer, string}
 use Rattle.cel_text.specs.Reading.{Stack, Frame, Due, value, entry, State, before, naming, named, quoted, dropping, begun, after, Step, go, refuse, syntax, refused, child, whole, closed, past, bare}
 use Rattle.cel_text.specs.Reading.{start, unquote, step, follow, run, limits}
-use Rattle.cel_text.specs.Table.{kind_number}
 use Rattle.cel_text.proofs.Laws.Class.{closer-comma, closer-closer}
 use Rattle.parser.specs.Set.{string_set}
+use Rattle.parser.specs.declared.value.Opener.{Opener}
 use Rattle.parser.specs.Run.{end_of, NamedAt}
-use Rattle.parser.specs.Kinds.{opener_kind, opens}
+use Rattle.parser.specs.Kinds.{opener_kind, opens, shown}
 use Rattle.parser.specs.Steps.{reads, goes_on}
+use Rattle.parser.proofs.Classes.{blank-zero}
 use Rattle.parser.proofs.Runs.{end-stop, end_more, end-other, class-within}
 
 -- what a byte does in a state
@@ -79,10 +80,6 @@ over f st h x p = over-lead (drop p x) p ∙ ap (run string_set limits st (end_o
 over-before : (w : Due) (x : Text) (p : ℕ) → reads (before w) x p ≡ reads (before w) x (end_of blank x p)
 over-before w x p = over blank (before w) (λ p b t. unfold step start in rw t) x p
 
-blank-zero : blank 0 ≡ false
-unfolding blank
-blank-zero = refl
-
 ident-zero : ident_byte 0 ≡ false
 unfolding ident_byte alphanumeric
 ident-zero = refl
@@ -108,19 +105,20 @@ named_past : (w : Due) (from to p b : ℕ) → blank b ≡ false → does (named
 unfolding step
 named_past w from to p b nb = rw nb
 
--- the name that a value's row shows: none for an array
-abbrev pub named_from : (kind place : ℕ) → ℕ
-named_from kind p = cond (eqb kind (kind_number array)) 0 p
+-- what a byte that opens something leads to, after a name with these ends, or after none
+abbrev pub opens-named : Option Opener → Stack → (from to p : ℕ) → Step
+opens-named None K from to p = refuse syntax
+opens-named (Some o) K from to p = opens (Some o) K (shown o from) (shown o to) p
 
 -- the byte that opens a value, after an identifier and after none
 past-opens : (K : Stack) (from to p b : ℕ)
-    → past string_set limits (value K) from to p b ≡ opens (opener_kind false b) K (named_from (opener_kind false b) from) (named_from (opener_kind false b) to) p
+    → past string_set limits (value K) from to p b ≡ opens-named (opener_kind false b) K from to p
 unfolding past
 past-opens K from to p b =
     cases (eqb b (opener object)) (λ t. rw t) (λ t₁. cases (eqb b (opener function)) (λ t. rw (t₁, t))
     (λ t₂. cases (eqb b (opener array)) (λ t. rw (t₁, t₂, t)) (λ t₃. cases (eqb b quote) (λ t. rw (t₁, t₂, t₃, t)) (λ t. rw (t₁, t₂, t₃, t)))))
 
-bare-opens : (K : Stack) (p b : ℕ) → bare string_set limits (value K) p b ≡ opens (opener_kind true b) K (named_from (opener_kind true b) p) (named_from (opener_kind true b) p) p
+bare-opens : (K : Stack) (p b : ℕ) → bare string_set limits (value K) p b ≡ opens-named (opener_kind true b) K p p p
 unfolding bare past
 bare-opens K p b =
     cases (eqb b (opener object)) (λ t. rw (eqb-true b (opener object) t))
@@ -178,20 +176,20 @@ module _ (x : Text) {p from to end : ℕ} (n : NamedAt x p from to end) where
   over-key K f = over-name (entry K f) ∙ ap (λ (s : Step). goes_on s x end) (past-entry K f)
 
   past_value : (K : Stack) → past_name (value K) from to end (get_or x end 0)
-      ≡ opens (opener_kind (eqb from to) (get_or x end 0)) K (named_from (opener_kind (eqb from to) (get_or x end 0)) from) (named_from (opener_kind (eqb from to) (get_or x end 0)) to) end
+      ≡ opens-named (opener_kind (eqb from to) (get_or x end 0)) K from to end
   past_value K = cases (eqb from to) same (λ t. rw t (past-opens K from to end (get_or x end 0)))
     where
       same : eqb from to ≡ true → past_name (value K) from to end (get_or x end 0)
-          ≡ opens (opener_kind (eqb from to) (get_or x end 0)) K (named_from (opener_kind (eqb from to) (get_or x end 0)) from) (named_from (opener_kind (eqb from to) (get_or x end 0)) to) end
+          ≡ opens-named (opener_kind (eqb from to) (get_or x end 0)) K from to end
       same t =
           let e : to ≡ from = sym (eqb-true from to t) in
           let here : end ≡ from = empty-ends (sym e) in
           rw (t, e, here) (bare-opens K from (get_or x from 0))
 
-  -- the opener of a value
-  pub over-opener : (K : Stack) (kind : ℕ) → kind ≡ opener_kind (eqb from to) (get_or x end 0)
-      → reads (before (value K)) x p ≡ goes_on (opens kind K (named_from kind from) (named_from kind to) end) x end
-  over-opener K kind e = rw e (over-name (value K) ∙ ap (λ (s : Step). goes_on s x end) (past_value K))
+  -- the opener of a value, or what is none
+  pub over-opener : (K : Stack) (o : Option Opener) → o ≡ opener_kind (eqb from to) (get_or x end 0)
+      → reads (before (value K)) x p ≡ goes_on (opens-named o K from to end) x end
+  over-opener K o e = rw e (over-name (value K) ∙ ap (λ (s : Step). goes_on s x end) (past_value K))
 
 -- the byte b at place p, which is neither content nor blank, in a string whose content ends at `to`
 abbrev pub closing : Stack → (o to p b : ℕ) → Step

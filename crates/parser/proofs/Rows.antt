@@ -1,7 +1,6 @@
 -- Rows put into a table, one after the other or out of order, and how many words they take. Assumes nothing.
-use Rattle.std.proofs.Common.{◌≡◌, ℕ, suc, ◌+◌, ◌-◌, ◌*◌, ◌<◌, ◌≤◌, [], ◌∷◌, ◌++◌, length, take, set, replicate, sym, refl, ap, ◌∙◌, append_assoc, append-nil, add-one, arith, length-set, take_all, take-suc-set}
-use lib.ListN.{replicate-append-replicate}
-use lib.Seq.{sets, set_comm}
+use Rattle.std.proofs.Common.{◌≡◌, ℕ, suc, ◌+◌, ◌*◌, ◌<◌, ◌≤◌, [], ◌∷◌, ◌++◌, length, take, drop, set, sym, refl, ap, ◌∙◌, append_assoc, drop-drop, arith}
+use lib.Seq.{sets, sets-eq, set_comm}
 use Rattle.cel_text.specs.Tree.{Kind, Key, Tree, string, container, Trees, ◌▸◌∶◌, nodes_all, count}
 use Rattle.cel_text.specs.Table.{Words, rows_of, rows_all, kind_number, key_from, key_to, string_kind, row_words}
 pub use Rattle.cel_text.proofs.Laws.Table.{length-rows_of, length-rows_all}
@@ -42,42 +41,6 @@ rows-container w c o from to q kf kt u n m ts k e e' h =
     ∙ ap (λ (i : ℕ). sets (sets w (row_words * n) (six ++ two)) i (rows_all ts (suc n) (suc n))) place
     ∙ sym (sets-append (six ++ two) (rows_all ts (suc n) (suc n)) w (row_words * n)))
 
--- six stores, and two more, at places that are sums
-pub put_six : (l : Words) (i a b c d e f : ℕ) → set (set (set (set (set (set l i a) (i + 1) b) (i + 2) c) (i + 3) d) (i + 4) e) (i + 5) f ≡ sets l i (a ∷ b ∷ c ∷ d ∷ e ∷ f ∷ [])
-put_six l i a b c d e f =
-    let h₁ : i + 1 ≡ suc i = omega arith in
-    let h₂ : i + 2 ≡ suc (suc i) = omega arith in
-    let h₃ : i + 3 ≡ suc (suc (suc i)) = omega arith in
-    let h₄ : i + 4 ≡ suc (suc (suc (suc i))) = omega arith in
-    let h₅ : i + 5 ≡ suc (suc (suc (suc (suc i)))) = omega arith in
-    rw (h₁, h₂, h₃, h₄, h₅)
-
-pub put_two : (l : Words) (i a b : ℕ) → set (set l (i + 6) a) (i + 7) b ≡ sets l (i + 6) (a ∷ b ∷ [])
-put_two l i a b = let h : i + 7 ≡ suc (i + 6) = omega arith in rw h
-
--- a table cleared from one place on: what stands before another place, and the whole
-pub record Cleared (w w' : Words) (from i : ℕ) : Type 0 where
-  pub front : take i w' ≡ take from w ++ replicate (i - from) 0
-  pub kept : length w' ≡ length w
-  pub reached : from ≤ i
-  pub within : i - from ≤ length w - from
-
-pub cleared-none : (w : Words) (from : ℕ) → Cleared w w from from
-cleared-none w from =
-    let none : from - from ≡ 0 = omega arith in
-    record { front = rw (none, append-nil); kept = refl; reached = omega arith; within = omega arith }
-
-pub cleared_more : {w w' : Words} {from i : ℕ} → Cleared w w' from i → i < length w' → Cleared w (set w' i 0) from (i + 1)
-cleared_more {w = w} {w' = w'} {from = from} {i = i} c h =
-    let more : i + 1 - from ≡ i - from + 1 = omega (arith, c.reached) in
-    record {
-      front = rw (more, add-one i, sym (replicate-append-replicate {A = ℕ} (i - from) 1 0)) (take-suc-set w' i 0 h ∙ rw (c.front, append_assoc));
-      kept = length-set w' i 0 ∙ c.kept;
-      reached = omega (arith, c.reached);
-      within = omega (arith, c.kept);
-    }
-
-pub cleared-all : {w w' : Words} {from i : ℕ} → Cleared w w' from i → length w' ≤ i → w' ≡ take from w ++ replicate (length w - from) 0
-cleared-all {w = w} {w' = w'} {from = from} {i = i} c h =
-    let all : length w - from ≡ i - from = omega (arith, c.within, c.kept) in
-    rw all (sym (take_all i w' h) ∙ c.front)
+-- words put side by side
+pub put-sets : (l ws : Words) (i : ℕ) → i + length ws ≤ length l → take i l ++ (ws ++ drop (length ws) (drop i l)) ≡ sets l i ws
+put-sets l ws i h = rw (drop-drop (length ws) i l, sym (append_assoc (take i l) ws (drop (i + length ws) l))) (sym (sets-eq ws l i h))

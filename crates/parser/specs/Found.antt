@@ -1,5 +1,5 @@
 -- The answer of reading a tree: the program's struct in the numbers of SPEC.md, and what the steps below `read_over` answer. Assumes nothing.
-use Rattle.std.specs.Prelude.{◌≡◌, ℕ, ◌≤◌}
+use Rattle.std.specs.Prelude.{◌≡◌, ℕ, ◌≤◌, Result, Ok, Err}
 use Rattle.std.proofs.lemmas.List.Edits.{sets}
 use Rattle.cel_text.specs.Byte.{Text}
 use Rattle.cel_text.specs.Tree.{Tree}
@@ -9,8 +9,8 @@ use Rattle.cel_text.specs.Answer.{Answer, refused_at, find_tree, tree, fault, ma
 use Rattle.parser.specs.Set.{string_set}
 use Rattle.parser.specs.declared.Answer.{Answer as Told}
 use Rattle.parser.specs.declared.Read.{Read}
-use Rattle.parser.specs.declared.Step.{Step}
-use Rattle.parser.specs.declared.Step.TheVariants.{Next, Refused}
+use Rattle.parser.specs.declared.Refused.{Refused}
+use Rattle.parser.specs.Faults.{number_of}
 use Rattle.parser.specs.Steps.{Sized}
 
 -- the struct that the program answers, in the numbers of SPEC.md
@@ -29,22 +29,22 @@ pub record Fault-found (x : Text) (r p : ℕ) : Type 0 where
   pub clears : nodes_left r ≡ cleared
   pub within : p ≤ max_text
 
-abbrev pub Finds : Text → (w w' : Words) → Step → Type 0
-Finds x w w' (Next r) = Tree-found x w w' r
-Finds x w w' (Refused r p) = Fault-found x r p.0
+abbrev pub Finds : Text → (w w' : Words) → Result Read Refused → Type 0
+Finds x w w' (Ok r) = Tree-found x w w' r
+Finds x w w' (Err e) = Fault-found x (number_of e.fault) e.place.0
 
--- the numbers of a step fit an answer's
-abbrev pub Small : Step → Type 0
-Small (Next r) = (r.next.0 ≤ max_nodes) × (r.depth ≤ max_depth)
-Small (Refused r p) = p.0 ≤ max_text
+-- the numbers of what was found fit an answer's
+abbrev pub Small : Result Read Refused → Type 0
+Small (Ok r) = (r.next.0 ≤ max_nodes) × (r.depth ≤ max_depth)
+Small (Err e) = e.place.0 ≤ max_text
 
--- the answer about a tree that was read, and the answer that a step gives
+-- the answer about a tree that was read, and the answer that what was found gives
 abbrev pub accepted_with : Read → Answer
 accepted_with r = record { refusal = 0; name = 0; kind = 0; place = 0; nodes = r.next.0; depth = r.depth }
 
-abbrev pub answer_of : Step → Answer
-answer_of (Next r) = accepted_with r
-answer_of (Refused r p) = refused_at r p.0
+abbrev pub answer_of : Result Read Refused → Answer
+answer_of (Ok r) = accepted_with r
+answer_of (Err e) = refused_at (number_of e.fault) e.place.0
 
 -- the first of the counted words that is to be set to 0 after a read
 abbrev pub stale_from : Left → ℕ

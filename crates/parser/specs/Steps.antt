@@ -1,23 +1,25 @@
 -- What the steps of reading answer, over the machine of `cel_text`: what a step has read is said for every stack of open
 -- containers at its depth that has opened as many nodes. Assumes nothing.
-use Rattle.std.specs.Prelude.{◌≡◌, ℕ, suc, ◌+◌, ◌*◌, ◌<◌, ◌≤◌, [], ◌∷◌, length, drop, ◌≢◌}
+use Rattle.std.specs.Prelude.{◌≡◌, ℕ, suc, ◌+◌, ◌*◌, ◌<◌, ◌≤◌, [], ◌∷◌, length, drop, Some, Result, Ok, Err}
 use Rattle.std.proofs.lemmas.List.Edits.{sets}
 use Rattle.cel_text.specs.Byte.{Text}
 use Rattle.cel_text.specs.Tree.{Kind, Key, unkeyed, Tree, Trees, container, nodes, depth, count}
 use Rattle.cel_text.specs.Reading.{Stack, inside, Frame, level, opened, State, before, value, quoted, begun, child, fresh, Fault, Outcome, refused, follow, refuse, go, run, limits, max_depth, max_nodes}
-use Rattle.cel_text.specs.Table.{Words, rows_of, rows_all, string_kind, kind_number, key_from, key_to, row_words, node_words}
+use Rattle.cel_text.specs.Table.{Words, rows_of, rows_all, key_from, key_to, row_words, node_words}
 use Rattle.cel_text.specs.Answer.{fault_number, max_text}
 use Rattle.cel_text.specs.Resume.{resume}
 use Rattle.parser.specs.Set.{string_set}
 use Rattle.parser.specs.declared.Read.{Read}
-use Rattle.parser.specs.declared.Step.{Step}
-use Rattle.parser.specs.declared.Step.TheVariants.{Next, Refused}
+use Rattle.parser.specs.declared.Refused.{Refused}
+use Rattle.parser.specs.declared.Place.{Place}
+use Rattle.parser.specs.declared.value.Kind.{Kind as Told}
+use Rattle.parser.specs.declared.value.Opener.{Opener}
+use Rattle.parser.specs.declared.value.Opener.TheVariants.{Container}
+use Rattle.parser.specs.declared.value.Head.{Head}
 use Rattle.parser.specs.declared.value.Key.{Key as Found}
-use Rattle.parser.specs.declared.value.Labelled.{Labelled}
-use Rattle.parser.specs.declared.value.Labelled.TheVariants.{As, Unlabelled}
-use Rattle.parser.specs.declared.value.Pass.{Pass}
-use Rattle.parser.specs.declared.value.Pass.TheVariants.{Past, Stopped}
-use Rattle.parser.specs.Kinds.{kind_of, opens, open_state}
+use Rattle.parser.specs.declared.value.Slot.{Slot}
+use Rattle.parser.specs.Faults.{number_of}
+use Rattle.parser.specs.Kinds.{opens, open_state}
 
 -- the machine at place p of x
 abbrev pub reads : State → Text → ℕ → Outcome
@@ -47,33 +49,41 @@ pub record Limited (x : Text) (w : Words) (at n left : ℕ) : Type 0 where
   pub few : n ≤ max_nodes
   pub few_left : left ≤ max_depth
 
--- what opens the value that is due at place p
-pub record Headed (x : Text) (p kind from to o : ℕ) : Type 0 where
-  pub enters : (K : Stack) → reads (before (value K)) x p ≡ goes_on (opens kind K from to o) x o
+-- what opens the value that is due at place p, or that nothing does
+pub record Headed (x : Text) (p : ℕ) (opener : Opener) (from to o : ℕ) : Type 0 where
+  pub enters : (K : Stack) → reads (before (value K)) x p ≡ goes_on (opens (Some opener) K from to o) x o
   pub later : p ≤ o
-  pub within : o ≤ length x
-  pub opener : (kind ≢ 0) → o < length x
+  pub inside : o < length x
   pub from_in : from ≤ length x
   pub to_in : to ≤ length x
-  pub numbered : (kind ≢ 0) → (kind ≢ string_kind) → kind_number (kind_of kind) ≡ kind
 
--- an opener of this kind at place p, under the limits
-pub record Entered (kind p n left q : ℕ) : Type 0 where
+abbrev pub Begins : Text → ℕ → Result Head Refused → Type 0
+Begins x p (Ok h) = Headed x p h.opener h.from.0 h.to.0 h.at.0
+Begins x p (Err e) = (n left : ℕ) → RefusedBy (λ K. before (value K)) x p n left (number_of e.fault) e.place.0
+
+-- an opener at place p, under the limits
+pub record Entered (opener : Opener) (p n left q : ℕ) : Type 0 where
   pub next : q ≡ suc p
-  pub some : kind ≡ 0 → ⊥
   pub room : n < max_nodes
-  pub deeper : (kind ≢ string_kind) → 0 < left
-  pub goes : (K : Stack) (from to : ℕ) → Around K n left → opens kind K from to p ≡ go (open_state kind K from to p)
+  pub deeper : (kind : Told) → opener ≡ Container kind → 0 < left
+  pub goes : (K : Stack) (from to : ℕ) → Around K n left → opens (Some opener) K from to p ≡ go (open_state opener K from to p)
 
-pub record NotEntered (kind p n left r q : ℕ) : Type 0 where
+pub record NotEntered (opener : Opener) (p n left r q : ℕ) : Type 0 where
   pub fault : Fault
   pub number : fault_number fault ≡ r
-  pub refuses : (K : Stack) (from to : ℕ) → Around K n left → opens kind K from to p ≡ refuse fault
+  pub refuses : (K : Stack) (from to : ℕ) → Around K n left → opens (Some opener) K from to p ≡ refuse fault
   pub there : q ≡ p
 
-abbrev pub Opens : (kind p n left : ℕ) → Pass → Type 0
-Opens kind p n left (Past q) = Entered kind p n left q.0
-Opens kind p n left (Stopped r q) = NotEntered kind p n left r q.0
+abbrev pub Opens : Opener → (p n left : ℕ) → Result Place Refused → Type 0
+Opens opener p n left (Ok q) = Entered opener p n left q.0
+Opens opener p n left (Err e) = NotEntered opener p n left (number_of e.fault) e.place.0
+
+-- a child that has no key, and a text's first value, which is no child
+abbrev pub no_key : Place → Found
+no_key due = record { from = record { 0 = 0 }; to = record { 0 = 0 }; due = due }
+
+abbrev pub root_slot : Slot
+root_slot = record { node = record { 0 = 0 }; key = no_key (record { 0 = 0 }); parent = record { 0 = 0 } }
 
 -- what is told of a value that was read from place `at` on, as node n, where `left` more containers may open
 pub record Sized (t : Tree) (x : Text) (at n left : ℕ) (r : Read) : Type 0 where
@@ -96,14 +106,14 @@ pub record WholeValue (st : Stack → State) (x : Text) (w w' : Words) (at n lef
   pub rows : (k : Key) → key_from k ≡ kf → key_to k ≡ kt → w' ≡ sets w (row_words * n) (rows_of tree k u n)
   pub sized : Sized tree x at n left r
 
-abbrev pub Valued : Text → (w w' : Words) → (at n left kf kt u : ℕ) → Step → Type 0
-Valued x w w' at n left kf kt u (Next r) = WholeValue (λ K. before (value K)) x w w' at n left kf kt u r
-Valued x w w' at n left kf kt u (Refused r p) = RefusedBy (λ K. before (value K)) x at n left r p.0
+abbrev pub Valued : Text → (w w' : Words) → Slot → (left : ℕ) → Result Read Refused → Type 0
+Valued x w w' s left (Ok r) = WholeValue (λ K. before (value K)) x w w' s.key.due.0 s.node.0 left s.key.from.0 s.key.to.0 s.parent.0 r
+Valued x w w' s left (Err e) = RefusedBy (λ K. before (value K)) x s.key.due.0 s.node.0 left (number_of e.fault) e.place.0
 
 -- a string whose opener stands before place `at`
-abbrev pub StringRead : Text → (w w' : Words) → (at n kf kt u : ℕ) → Step → Type 0
-StringRead x w w' at n kf kt u (Next r) = (o left : ℕ) → at ≡ suc o → WholeValue (λ K. quoted K o) x w w' at n left kf kt u r
-StringRead x w w' at n kf kt u (Refused r p) = (o left : ℕ) → RefusedBy (λ K. quoted K o) x at n left r p.0
+abbrev pub StringRead : Text → (w w' : Words) → (at : ℕ) → Slot → Result Read Refused → Type 0
+StringRead x w w' at s (Ok r) = (o left : ℕ) → at ≡ suc o → WholeValue (λ K. quoted K o) x w w' at s.node.0 left s.key.from.0 s.key.to.0 s.parent.0 r
+StringRead x w w' at s (Err e) = (o left : ℕ) → RefusedBy (λ K. quoted K o) x at s.node.0 left (number_of e.fault) e.place.0
 
 -- an open container with its children so far and the key of the child that comes next
 abbrev pub framed : Kind → (o from to : ℕ) → Trees → Key → Frame
@@ -137,13 +147,13 @@ pub record ChildRefused (c : Kind) (x : Text) (at n left r p : ℕ) : Type 0 whe
       → reads (before (child c K (framed c o from to ts unkeyed))) x at ≡ refused fault p
   pub within : p ≤ length x
 
-abbrev pub Labels : Text → ℕ → Kind → Labelled → Type 0
-Labels x p c (As k) = Keyed x c p k
-Labels x p c (Unlabelled r q) = (n left : ℕ) → ChildRefused c x p n left r q.0
+abbrev pub Labels : Text → ℕ → Kind → Result Found Refused → Type 0
+Labels x p c (Ok k) = Keyed x c p k
+Labels x p c (Err e) = (n left : ℕ) → ChildRefused c x p n left (number_of e.fault) e.place.0
 
-abbrev pub ChildRead : Kind → Text → (w w' : Words) → (at n left u : ℕ) → Step → Type 0
-ChildRead c x w w' at n left u (Next r) = WholeChild c x w w' at n left u r
-ChildRead c x w w' at n left u (Refused r p) = ChildRefused c x at n left r p.0
+abbrev pub ChildRead : Kind → Text → (w w' : Words) → (at n left u : ℕ) → Result Read Refused → Type 0
+ChildRead c x w w' at n left u (Ok r) = WholeChild c x w w' at n left u r
+ChildRead c x w w' at n left u (Err e) = ChildRefused c x at n left (number_of e.fault) e.place.0
 
 -- a whole list and its container's closer: the rows of the children, and the words of the container's row that are known now
 pub record WholeList (x : Text) (w w' : Words) (at n : ℕ) (c : Kind) (left : ℕ) (r : Read) : Type 0 where
@@ -153,6 +163,6 @@ pub record WholeList (x : Text) (w w' : Words) (at n : ℕ) (c : Kind) (left : �
   pub rows : w' ≡ sets (sets w (row_words * suc n) (rows_all children (suc n) (suc n))) (row_words * n + 6) (count children ∷ r.next.0 ∷ [])
   pub sized : (o from to q : ℕ) → Sized (container c o from to q children) x at n (suc left) r
 
-abbrev pub Listed : Text → (w w' : Words) → (at n kind left : ℕ) → Step → Type 0
-Listed x w w' at n kind left (Next r) = WholeList x w w' at n (kind_of kind) left r
-Listed x w w' at n kind left (Refused r p) = (o from to : ℕ) → RefusedBy (λ K. begun K (fresh (kind_of kind) o from to)) x at n (suc left) r p.0
+abbrev pub Listed : Text → (w w' : Words) → (at n : ℕ) → Kind → (left : ℕ) → Result Read Refused → Type 0
+Listed x w w' at n c left (Ok r) = WholeList x w w' at n c left r
+Listed x w w' at n c left (Err e) = (o from to : ℕ) → RefusedBy (λ K. begun K (fresh c o from to)) x at n (suc left) (number_of e.fault) e.place.0

@@ -10,14 +10,15 @@ ghost use Rattle.std.specs.Prelude.{◌≡◌, ◌≤◌, length};
 ghost use Rattle.cel_text.specs.Reading.{max_depth, max_nodes};
 ghost use Rattle.cel_text.specs.Table.{node_words, nodes_left};
 ghost use Rattle.cel_text.specs.Answer.{max_text, refused_at, tree_answer, tree_table, tree_over};
+ghost use Rattle.parser.specs.Faults.{number_of};
 ghost use Rattle.parser.specs.Found.{told, Finds, Small, answer_of, accepted_with, stale_from};
 
 // A place in the text: how many bytes stand before it.
-#[derive(Clone, Copy)]
+#[derive(Clone, Copy, Default)]
 pub struct Place(pub usize);
 
 // A node's number.
-#[derive(Clone, Copy)]
+#[derive(Clone, Copy, Default)]
 pub struct Node(pub usize);
 
 // What was read: where reading goes on, the number of the next node and the depth.
@@ -28,11 +29,43 @@ pub(crate) struct Read {
     pub depth: usize,
 }
 
-// What a reading step answers: what it read, or the refusal's number and its place.
+// Why reading refuses a text.
 #[derive(Clone, Copy)]
-pub(crate) enum Step {
-    Next(Read),
-    Refused(u32, Place),
+pub(crate) enum Fault {
+    TextTooLong,
+    NotAscii,
+    Syntax,
+    TooDeep,
+    TooMany,
+}
+
+impl Fault {
+    // The refusal's number.
+    fn number(self) -> u32
+        ensures { result ≡ number_of self }
+    {
+        match self {
+            Fault::TextTooLong => TEXT_TOO_LONG,
+            Fault::NotAscii => NOT_ASCII,
+            Fault::Syntax => SYNTAX,
+            Fault::TooDeep => TOO_DEEP,
+            Fault::TooMany => TOO_MANY,
+        }
+    }
+
+    // The refusal for this reason, at this place.
+    pub(crate) fn at(self, place: Place) -> Refused
+        ensures { result ≡ record { fault = self; place = place } }
+    {
+        Refused { fault: self, place }
+    }
+}
+
+// A refusal, and its place.
+#[derive(Clone, Copy)]
+pub(crate) struct Refused {
+    pub fault: Fault,
+    pub place: Place,
 }
 
 // The answer of reading a tree: its six numbers.
@@ -124,8 +157,8 @@ pub fn read_over(text: &[u8], table: &mut [u32]) -> Answer
     if table.len() < NODE_WORDS {
         return too_short();
     }
-    let step = find(text, &mut table[..NODE_WORDS]);
-    let answer = answer_of(step);
+    let found = find(text, &mut table[..NODE_WORDS]);
+    let answer = answer_of(found);
     row::clear(&mut table[..NODE_WORDS], stale(answer.refusal));
     answer
 }
@@ -134,40 +167,31 @@ pub fn read_over(text: &[u8], table: &mut [u32]) -> Answer
 pub fn too_short() -> Answer
     ensures { told result ≡ refused_at 1 0 }
 {
-    refused(TABLE_TOO_SHORT, Place(0))
+    without_tree(TABLE_TOO_SHORT, Place(0))
 }
 
 // Refusals 2 and 3, then the value that the text begins with.
-fn find(text: &[u8], table: &mut [u32]) -> Step
+fn find(text: &[u8], table: &mut [u32]) -> Result<Read, Refused>
     requires { length table.old ≡ node_words }
     ensures { Finds text.now table.old table.new result }
 {
     if MAX_TEXT < text.len() {
-        return Step::Refused(TEXT_TOO_LONG, Place(MAX_TEXT));
+        return Err(Fault::TextTooLong.at(Place(MAX_TEXT)));
     }
     let plain = scan::ascii_end(text);
     if plain.0 < text.len() {
-        return Step::Refused(NOT_ASCII, plain);
+        return Err(Fault::NotAscii.at(plain));
     }
-    value::cel_value(
-        text,
-        table,
-        Place(0),
-        Node(0),
-        MAX_DEPTH,
-        Place(0),
-        Place(0),
-        row::Parent(0),
-    )
+    value::cel_value(text, table, value::root(), MAX_DEPTH)
 }
 
-fn answer_of(step: Step) -> Answer
-    requires { Small step }
-    ensures { told result ≡ answer_of step }
+fn answer_of(found: Result<Read, Refused>) -> Answer
+    requires { Small found }
+    ensures { told result ≡ answer_of found }
 {
-    match step {
-        Step::Next(read) => accepted(read),
-        Step::Refused(refusal, place) => refused(refusal, place),
+    match found {
+        Ok(read) => accepted(read),
+        Err(refused) => without_tree(refused.fault.number(), refused.place),
     }
 }
 
@@ -188,7 +212,7 @@ fn accepted(read: Read) -> Answer
 }
 
 // The answer of a refusal without a tree.
-fn refused(refusal: u32, place: Place) -> Answer
+fn without_tree(refusal: u32, place: Place) -> Answer
     requires { place.0 ≤ max_text }
     ensures { told result ≡ refused_at refusal place.0 }
 {

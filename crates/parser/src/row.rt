@@ -5,14 +5,15 @@ ghost use Rattle.cel_text.specs.Reading.{max_nodes};
 ghost use Rattle.cel_text.specs.Table.{row_words, words_at, row_at};
 ghost use Rattle.parser.specs.Rows.{row_told};
 
+use crate::value::Slot;
 use crate::{Node, Place, ROW_WORDS};
 
 // A parent's word: its number plus 1, 0 where there is none.
-#[derive(Clone, Copy)]
+#[derive(Clone, Copy, Default)]
 pub struct Parent(pub u32);
 
 // A node's row, word by word.
-#[derive(Clone, Copy)]
+#[derive(Clone, Copy, Default)]
 pub struct Row {
     pub kind: u32,
     pub from: Place,
@@ -29,7 +30,7 @@ pub fn read_row(table: &[u32], node: Node) -> Row
     ensures { row_told result ≡ row_at table.now node.0 }
 {
     if table.len() / ROW_WORDS <= node.0 {
-        return no_row();
+        return Row::default();
     }
     let at = ROW_WORDS * node.0;
     Row {
@@ -44,43 +45,22 @@ pub fn read_row(table: &[u32], node: Node) -> Row
     }
 }
 
-fn no_row() -> Row
-    ensures { row_told result ≡ words_at [] 0 }
-{
-    Row {
-        kind: 0,
-        from: Place(0),
-        to: Place(0),
-        keyfrom: Place(0),
-        keyto: Place(0),
-        parent: Parent(0),
-        children: 0,
-        past: Node(0),
-    }
-}
-
 // The words that are known where a node opens: kind, name or content, key, parent.
-pub(crate) fn open_row(
-    table: &mut [u32],
-    node: Node,
-    kind: u32,
-    from: Place,
-    to: Place,
-    keyfrom: Place,
-    keyto: Place,
-    parent: Parent,
-)
-    requires node_in_bounds { row_words * suc node.0 ≤ length table.old }
-    requires from_bound { (from.0 < 2 ^ 32) × (to.0 < 2 ^ 32) × (keyfrom.0 < 2 ^ 32) × (keyto.0 < 2 ^ 32) }
-    ensures { table.new ≡ sets table.old (row_words * node.0) (kind ∷ from.0 ∷ to.0 ∷ keyfrom.0 ∷ keyto.0 ∷ parent.0 ∷ []) }
+pub(crate) fn open_row(table: &mut [u32], kind: u32, from: Place, to: Place, slot: Slot)
+    requires node_in_bounds { row_words * suc slot.node.0 ≤ length table.old }
+    requires from_bound { (from.0 < 2 ^ 32) × (to.0 < 2 ^ 32) × (slot.key.from.0 < 2 ^ 32) × (slot.key.to.0 < 2 ^ 32) }
+    ensures { table.new ≡ sets table.old (row_words * slot.node.0) (kind ∷ from.0 ∷ to.0 ∷ slot.key.from.0 ∷ slot.key.to.0 ∷ slot.parent.0 ∷ []) }
 {
+    let Slot { node, key, parent } = slot;
     let at = ROW_WORDS * node.0;
-    table[at] = kind;
-    table[at + 1] = from.0 as u32;
-    table[at + 2] = to.0 as u32;
-    table[at + 3] = keyfrom.0 as u32;
-    table[at + 4] = keyto.0 as u32;
-    table[at + 5] = parent.0;
+    table[at..at + 6].copy_from_slice(&[
+        kind,
+        from.0 as u32,
+        to.0 as u32,
+        key.from.0 as u32,
+        key.to.0 as u32,
+        parent.0,
+    ]);
 }
 
 // The words that are known where it closes: its children, and the first node after its subtree.
@@ -89,9 +69,8 @@ pub(crate) fn close_row(table: &mut [u32], node: Node, children: usize, past: No
     requires children_bound { (children < 2 ^ 32) × (past.0 < 2 ^ 32) }
     ensures { table.new ≡ sets table.old (row_words * node.0 + 6) (children ∷ past.0 ∷ []) }
 {
-    let at = ROW_WORDS * node.0;
-    table[at + 6] = children as u32;
-    table[at + 7] = past.0 as u32;
+    let at = ROW_WORDS * node.0 + 6;
+    table[at..at + 2].copy_from_slice(&[children as u32, past.0 as u32]);
 }
 
 // The word of a parent with this number.
@@ -106,9 +85,7 @@ pub(crate) fn under(node: Node) -> Parent
 pub fn clear(table: &mut [u32], from: usize)
     ensures { table.new ≡ take from table.old ++ replicate (length table.old - from) 0 }
 {
-    let mut i = from;
-    while i < table.len() {
-        table[i] = 0;
-        i += 1;
+    if from < table.len() {
+        table[from..].fill(0);
     }
 }

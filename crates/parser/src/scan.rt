@@ -2,7 +2,7 @@
 ghost use Rattle.std.specs.Prelude.{◌≡◌, ℕ, ◌+◌, ◌*◌, ◌^◌, ◌<◌, ◌≤◌, max, length, slice_index};
 ghost use Rattle.cel_text.specs.Byte.{blank, ident_byte, ascii};
 ghost use Rattle.parser.specs.Set.{string_set};
-ghost use Rattle.parser.specs.Run.{class_of, end_of, number_at, BytesAt, Spaces, NamedAt, letter, digit};
+ghost use Rattle.parser.specs.Run.{class_of, end_of, number_at, BytesAt, Spaces, NamedAt};
 
 use crate::Place;
 
@@ -58,15 +58,11 @@ fn blanks(text: &[u8], at: Place) -> Place
 fn blank_run(text: &[u8], at: Place) -> Place
     ensures { result.0 ≡ end_of blank text.now at.0 }
 {
-    let mut i = at.0;
-    while i < text.len() {
-        if !has(Class::Blank, text[i]) {
-            return Place(i);
-        }
-        let next = spaces(text, Place(i + 1));
-        i = next.0;
+    let mut end = at;
+    while is_blank(peek(text, end)) {
+        end = spaces(text, Place(end.0 + 1));
     }
-    Place(i)
+    end
 }
 
 // A place up to which there are spaces, as far on as whole eights of bytes tell.
@@ -123,14 +119,12 @@ fn joined(b: u8, above: u64) -> u64
 fn run(text: &[u8], at: Place, class: Class) -> Place
     ensures { result.0 ≡ end_of (class_of class) text.now at.0 }
 {
-    let mut i = at.0;
-    while i < text.len() {
+    for i in at.0..text.len() {
         if !has(class, text[i]) {
             return Place(i);
         }
-        i += 1;
     }
-    Place(i)
+    Place(at.0.max(text.len()))
 }
 
 // The place of the first byte of 128 or more, or the text's length. Nearly every text has none, and the loop that finds the
@@ -148,19 +142,11 @@ pub(crate) fn ascii_end(text: &[u8]) -> Place
 fn greatest(text: &[u8]) -> u8
     ensures { (k : ℕ) → k < length text.now → slice_index text.now k ≤ result }
 {
-    let mut most = 0;
-    let mut i = 0;
-    while i < text.len() {
-        most = larger(most, text[i]);
-        i += 1;
+    let mut most: u8 = 0;
+    for b in text {
+        most = most.max(*b);
     }
     most
-}
-
-fn larger(a: u8, b: u8) -> u8
-    ensures { result ≡ max a b }
-{
-    if a < b { b } else { a }
 }
 
 // The end of the identifier that begins here.
@@ -191,61 +177,23 @@ fn has(class: Class, b: u8) -> bool
     }
 }
 
+#[tactic(auto, unfolding(cel_text::specs::Byte::blank))]
 fn is_blank(b: u8) -> bool
     ensures { result ≡ blank b }
 {
-    if b == b' ' {
-        return true;
-    }
-    if b == b'\n' {
-        return true;
-    }
-    if b == b'\t' {
-        return true;
-    }
-    b == b'\r'
+    matches!(b, b' ' | b'\n' | b'\t' | b'\r')
 }
 
+#[tactic(auto, unfolding(cel_text::specs::Byte::ident_byte, cel_text::specs::Byte::alphanumeric))]
 fn is_ident(b: u8) -> bool
     ensures { result ≡ ident_byte b }
 {
-    if is_letter(b) {
-        return true;
-    }
-    if is_digit(b) {
-        return true;
-    }
-    b == b'_'
+    b.is_ascii_alphanumeric() || b == b'_'
 }
 
+#[tactic(auto, unfolding(cel_text::specs::Byte::string_byte, cel_text::specs::Byte::alphanumeric))]
 fn is_string_byte(b: u8) -> bool
     ensures { result ≡ string_set b }
 {
-    if is_letter(b) {
-        return true;
-    }
-    if is_digit(b) {
-        return true;
-    }
-    b == b'-'
-}
-
-// A capital and its small letter differ in bit 5 alone.
-fn is_letter(b: u8) -> bool
-    ensures { result ≡ letter b }
-{
-    let small = b | 32;
-    if small < b'a' {
-        return false;
-    }
-    small <= b'z'
-}
-
-fn is_digit(b: u8) -> bool
-    ensures { result ≡ digit b }
-{
-    if b < b'0' {
-        return false;
-    }
-    b <= b'9'
+    b.is_ascii_alphanumeric() || b == b'-'
 }

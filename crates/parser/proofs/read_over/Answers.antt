@@ -17,17 +17,17 @@ returns-then-table-lt-NODE_WORDS c =
 pub slice_bounds-find-end-2 : goal.slice_bounds-find-end-2
 slice_bounds-find-end-2 c = sym (length-take-le node_words c.args.table.now c.if-table-lt-NODE_WORDS.false)
 
-pub find-step-requires : goal.find-step-requires
-find-step-requires c = length-take-le node_words c.args.table.now c.if-table-lt-NODE_WORDS.false
+pub find-found-requires : goal.find-found-requires
+find-found-requires c = length-take-le node_words c.args.table.now c.if-table-lt-NODE_WORDS.false
 
 pub answer_of-answer-requires : goal.answer_of-answer-requires
-answer_of-answer-requires c = small _ _ _ c.find-step.result c.find-step.ensures
+answer_of-answer-requires c = small _ _ _ c.find-found.result c.find-found.ensures
 
 pub slice_bounds-clear-end-2 : goal.slice_bounds-clear-end-2
 slice_bounds-clear-end-2 c =
     let w = c.args.table.now in
-    let w' = c.find-step.new.table in
-    let long : length (w' ++ drop node_words w) ≡ length w = length_front w w' node_words c.find-step.auto.table in
+    let w' = c.find-found.new.table in
+    let long : length (w' ++ drop node_words w) ≡ length w = length_front w w' node_words c.find-found.auto.table in
     let room : node_words ≤ length (w' ++ drop node_words w) = omega (arith, c.if-table-lt-NODE_WORDS.false) in
     sym (length-take-le node_words (w' ++ drop node_words w) room)
 
@@ -36,7 +36,7 @@ returns c =
     let x = c.args.text.now in
     let w = c.args.table.now in
     let h = c.if-table-lt-NODE_WORDS.false in
-    let f = c.find-step in
+    let f = c.find-found in
     let a = c.answer_of-answer.ensures in
     let e = c.stale.ensures ∙ ap (λ (r : Answer). stale_from (nodes_left r.refusal)) a in
     record {

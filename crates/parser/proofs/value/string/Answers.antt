@@ -11,7 +11,7 @@ returns-then-peek-ne34 c =
     let a = c.args in
     let r = c.run_of-to in
     let q = c.run_of-end in
-    λ o left. string-refused a.text.now o a.at.0 r.result.0 q.result.0 a.node.0 left r.ensures q.ensures c.requires.at_in_bounds.0 (λ e. c.if-peek-ne34.true (c.peek.ensures ∙ e))
+    λ o left. rw c.at.ensures (string-refused a.text.now o a.at.0 r.result.0 q.result.0 a.slot.node.0 left r.ensures q.ensures c.requires.at_in_bounds.0 (λ e. c.if-peek-ne34.true (c.peek.ensures ∙ e)))
 
 pub open_row-requires : goal.open_row-requires
 open_row-requires c =
@@ -34,7 +34,7 @@ returns c =
     let a = c.args in
     let r = c.run_of-to in
     let q = c.run_of-end in
-    λ o left h. string-whole a.text.now o a.at.0 r.result.0 q.result.0 a.node.0 left r.ensures q.ensures
-    c.requires.at_in_bounds.0 _ (add-one q.result.0) (add-one a.node.0) refl
+    λ o left h. string-whole a.text.now o a.at.0 r.result.0 q.result.0 a.slot.node.0 left r.ensures q.ensures
+    c.requires.at_in_bounds.0 _ (add-one q.result.0) (add-one a.slot.node.0) refl
     (sym c.peek.ensures ∙ c.if-peek-ne34.false) c.requires.at_in_bounds.2 h
     c.open_row.ensures c.close_row.ensures
