@@ -1,15 +1,19 @@
 -- `print_any` meets its contract: what is judged, then what is printed. Assumes nothing.
-use Rattle.cel_policy.specs.Answers.{any_byte}
-use Rattle.cel_policy.specs.Policy.{numbers}
-use Rattle.create_cel_expr.proofs.Judgings.{gave-by}
+use Rattle.std.proofs.Common.{◌∙◌, ap, length}
+use Rattle.cel_policy.specs.Answers.{Printing, print_answered, output, print_answer, print_output, any_byte}
+use Rattle.create_cel_expr.proofs.Judgings.{printing-found}
 use Rattle.create_cel_expr.proofs.print_any.Goals as goal
 
-pub print_judged-requires : goal.print_judged-requires
-print_judged-requires c = record { set = any_byte; same = c.over_any-judged.ensures }
-
-pub returns : goal.returns
-returns c =
+pub returns-clause-answer : goal.returns-clause-answer
+unfolding print_answer
+returns-clause-answer c =
     let a = c.args in
-    let j = c.over_any-judged in
-    let g = gave-by (numbers a.policy) a.spans.now a.text.now j.result a.out.now any_byte j.ensures (c.print_judged.ensures.answer, c.print_judged.ensures.output) in
-    record { answer = g.0; output = g.1 }
+    let j = c.over_any in
+    c.from.ensures ∙ c.print.ensures.answer ∙ ap print_answered (printing-found any_byte a.policy a.spans.now a.text.now (length a.out.now) j.result j.ensures.judged j.ensures.same)
+
+pub returns-clause-output : goal.returns-clause-output
+unfolding print_output
+returns-clause-output c =
+    let a = c.args in
+    let j = c.over_any in
+    c.print.ensures.output ∙ ap (λ (w : Printing). output w a.out.now) (printing-found any_byte a.policy a.spans.now a.text.now (length a.out.now) j.result j.ensures.judged j.ensures.same)

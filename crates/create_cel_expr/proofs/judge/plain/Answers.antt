@@ -6,4 +6,4 @@ use Rattle.create_cel_expr.proofs.judge.plain.Goals as goal
 
 pub returns : goal.returns
 unfolding bytes_fit
-returns c = run-all string_set c.string-string.ensures c.run_of-end.ensures
+returns c = run-all string_set c.string-string.ensures.part c.run_of-end.ensures
