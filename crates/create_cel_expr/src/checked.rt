@@ -26,6 +26,6 @@ impl<'a> Checked<'a> {
         ensures part { result.now ≡ string_of self.now i }
         ensures short { length result.now < word_size }
     {
-        &self.text[span::from(self.spans, i)..span::to(self.spans, i)]
+        &self.text[span::of(self.spans, i)]
     }
 }

@@ -38,9 +38,11 @@ fn shape(policy: Policy) -> bool
 fn inside(text: &[u8], spans: &[u32], i: usize) -> bool
     ensures { result ≡ span_fits spans.now text.now i }
 {
-    i < spans.len() / 2
-        && span::from(spans, i) <= span::to(spans, i)
-        && span::to(spans, i) <= text.len()
+    if spans.len() / 2 <= i {
+        return false;
+    }
+    let span = span::of(spans, i);
+    span.start <= span.end && span.end <= text.len()
 }
 
 // 21: the first string whose span is not.

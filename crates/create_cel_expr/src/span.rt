@@ -5,22 +5,16 @@ ghost use Rattle.cel_policy.specs.Spans.{span_at};
 ghost use Rattle.create_cel_expr.specs.Given.{word_size};
 
 use cel_policy::Policy;
+use std::ops::Range;
 
-// Where string i begins.
-pub(crate) fn from(spans: &[u32], i: usize) -> usize
+// Where string i begins, and the place after its end.
+pub(crate) fn of(spans: &[u32], i: usize) -> Range<usize>
     requires { suc (2 * i) < length spans.now }
-    ensures { result ≡ (span_at spans.now i).from }
+    ensures start { result.start ≡ (span_at spans.now i).from }
+    ensures end { result.end ≡ (span_at spans.now i).to }
+    ensures word { result.end < word_size }
 {
-    spans[2 * i] as usize
-}
-
-// The place after its end.
-pub(crate) fn to(spans: &[u32], i: usize) -> usize
-    requires { suc (2 * i) < length spans.now }
-    ensures end { result ≡ (span_at spans.now i).to }
-    ensures word { result < word_size }
-{
-    spans[2 * i + 1] as usize
+    spans[2 * i] as usize..spans[2 * i + 1] as usize
 }
 
 // The response's first string.

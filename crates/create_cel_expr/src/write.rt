@@ -19,23 +19,14 @@ fn put(out: &mut [u8], at: usize, piece: &[u8]) -> usize
     end
 }
 
-// String i after the one before it.
-fn next(out: &mut [u8], at: usize, given: &Checked, i: usize) -> usize
+// String i, after what stands before it in its list.
+#[tactic(auto, using(crate::proofs::Writing::writing))]
+fn string(out: &mut [u8], at: usize, before: &[u8], given: &Checked, i: usize) -> usize
     requires within { i < count_of given.now }
-    requires fits { Fits out.old at (bytes "\",\"" ++ string_of given.now i) }
-    ensures { Wrote out.old out.new at result (bytes "\",\"" ++ string_of given.now i) }
+    requires fits { Fits out.old at (before.now ++ string_of given.now i) }
+    ensures { Wrote out.old out.new at result (before.now ++ string_of given.now i) }
 {
-    let past = put(out, at, b"\",\"");
-    put(out, past, given.string(i))
-}
-
-// The first string of a list, after its quote.
-fn first(out: &mut [u8], at: usize, given: &Checked, i: usize) -> usize
-    requires within { i < count_of given.now }
-    requires fits { Fits out.old at (bytes "\"" ++ string_of given.now i) }
-    ensures { Wrote out.old out.new at result (bytes "\"" ++ string_of given.now i) }
-{
-    let past = put(out, at, b"\"");
+    let past = put(out, at, before);
     put(out, past, given.string(i))
 }
 
@@ -48,9 +39,9 @@ fn list(out: &mut [u8], at: usize, given: &Checked, begin: usize, count: usize) 
     if count == 0 {
         return at;
     }
-    let mut past = first(out, at, given, begin);
+    let mut past = string(out, at, b"\"", given, begin);
     for i in 1..count {
-        past = next(out, past, given, begin + i);
+        past = string(out, past, b"\",\"", given, begin + i);
     }
     put(out, past, b"\"")
 }
@@ -79,10 +70,10 @@ fn list_key(out: &mut [u8], at: usize, kind: u32) -> usize
     requires { Fits out.old at (list_key kind) }
     ensures { Wrote out.old out.new at result (list_key kind) }
 {
-    if kind == EXCLUSIONS {
-        return put(out, at, b"response_header_exclusions");
+    match kind {
+        EXCLUSIONS => put(out, at, b"response_header_exclusions"),
+        _ => put(out, at, b"certified_response_headers"),
     }
-    put(out, at, b"certified_response_headers")
 }
 
 // The response part.
