@@ -1,5 +1,6 @@
 -- Judging step by step, and printing after it. Assumes nothing.
 use Rattle.std.proofs.Common.{◌≡◌, ℕ, ◌<◌, ◌≤◌, Bool, true, false, sym, ap, ◌∙◌, subst, zero-add, Result, Ok, Err, IfOk}
+use Rattle.std.proofs.lemmas.Result.{err_from_is_err_and}
 use Rattle.cel_text.specs.Byte.{Text}
 use Rattle.cel_text.specs.Table.{Words}
 use Rattle.cel_policy.specs.Policy.{Counted, string_count, numbers}
@@ -46,9 +47,11 @@ module _ (S : ℕ → Bool) (p : Policy) (ws : Words) (x : Text) where
       ∙ sym (judgement-then (numbers p) ws x S)
 
   -- what is printed after it
-  pub printing-found :
+  pub printing_found :
       (room : ℕ) (j : Result Checked Refusal) → judged_as j ≡ judgement S (numbers p) ws x → IfOk j (IsOf p x ws)
       → printing j room ≡ find_print S (numbers p) ws x room
   unfolding find_print
-  printing-found room (Ok c) e s = rw (sym e, s.0, s.1, s.2)
-  printing-found room (Err f) e s = rw (sym e)
+  printing_found room (Ok c) e s = rw (sym e, s.0, s.1, s.2)
+  printing_found room (Err f) e s = rw (sym e)
+
+pub ruleset judging = (judged-20, judged-few, judged-21, judged-inside, judged-faulty, judged-22, err_from_is_err_and)

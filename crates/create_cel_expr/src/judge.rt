@@ -81,6 +81,7 @@ fn all_plain(given: &Checked) -> Result<(), Refusal>
 }
 
 // 20 and 21: all that is judged where any byte may stand in a string.
+#[tactic(auto, using(crate::proofs::Judgings::judging))]
 pub(crate) fn over_any<'a>(
     policy: Policy,
     text: &'a [u8],
@@ -101,6 +102,7 @@ pub(crate) fn over_any<'a>(
 }
 
 // And 22.
+#[tactic(auto, using(crate::proofs::Judgings::judging))]
 pub(crate) fn over_set<'a>(
     policy: Policy,
     text: &'a [u8],

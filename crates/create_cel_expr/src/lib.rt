@@ -70,6 +70,7 @@ pub fn judge_policy(policy: Policy, text: &[u8], spans: &[u32]) -> Result<(), Re
 }
 
 // Writes the policy's text to the front of `out`, or refuses with 20 to 24 and leaves `out` as it is.
+#[tactic(auto, using(crate::proofs::Judgings::printing_found), unfolding(cel_policy::specs::Answers::print_answer, cel_policy::specs::Answers::print_output))]
 pub fn print_policy(policy: Policy, text: &[u8], spans: &[u32], out: &mut [u8]) -> Printed
     ensures answer { print_told result ≡ print_answer string_set (numbers policy) spans.now text.now (length out.old) }
     ensures output { out.new ≡ print_output string_set (numbers policy) spans.now text.now out.old }
@@ -78,6 +79,7 @@ pub fn print_policy(policy: Policy, text: &[u8], spans: &[u32], out: &mut [u8]) 
 }
 
 // The same where any byte may stand in a string, as for strings that were read: 22 falls away.
+#[tactic(auto, using(crate::proofs::Judgings::printing_found), unfolding(cel_policy::specs::Answers::print_answer, cel_policy::specs::Answers::print_output))]
 pub fn print_any(policy: Policy, text: &[u8], spans: &[u32], out: &mut [u8]) -> Printed
     ensures answer { print_told result ≡ print_answer any_byte (numbers policy) spans.now text.now (length out.old) }
     ensures output { out.new ≡ print_output any_byte (numbers policy) spans.now text.now out.old }
