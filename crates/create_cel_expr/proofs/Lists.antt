@@ -1,12 +1,11 @@
 -- The strings of a list one after the other, as they are written and as their lengths are added up. Assumes nothing.
-use Rattle.std.proofs.Common.{◌≡◌, ℕ, suc, ◌+◌, ◌-◌, ◌*◌, ◌<◌, ◌≤◌, List, [], ◌∷◌, ◌++◌, length, sym, ap, ◌∙◌, append_assoc, append-nil, add-zero, zero-add, arith, lit≤}
-use Rattle.std.proofs.Math.Nat.{sub-zero}
+use Rattle.std.proofs.Common.{◌≡◌, ℕ, suc, ◌+◌, ◌-◌, ◌*◌, ◌<◌, ◌≤◌, List, [], ◌∷◌, ◌++◌, length, sym, ap, ◌∙◌, append_assoc, append-nil, arith}
 use Rattle.std.proofs.Math.ListN.{length-map}
 use Rattle.cel_text.specs.Byte.{Text, bytes}
 use Rattle.cel_policy.specs.Printed.{joined, list_text, total, list_length}
 use Rattle.cel_policy.proofs.Laws.SpanTable.{length-spans_at}
 use Rattle.pieces.specs.Pieces.{Wrote, Fits}
-use Rattle.pieces.specs.Laws.{wrote_none, wrote_as, wrote_then, fits-as}
+use Rattle.pieces.specs.Laws.{wrote_as, wrote_then, fits-as}
 use Rattle.create_cel_expr.specs.declared.checked.Checked.{Checked}
 use Rattle.create_cel_expr.specs.Given.{string_of, strings_of, word_size}
 
@@ -44,9 +43,6 @@ module _ (g : Checked) (begin count : ℕ) where
   -- what is left of the list's text
   abbrev pub rest_of : ℕ → Text
   rest_of i = tails (left_of i) ++ bytes "\""
-
-  pub wrote-empty : (out : Text) (at : ℕ) → count ≡ 0 → Wrote out out at at (list_text (strings_of g count begin))
-  wrote-empty out at e = rw e (wrote_none out at)
 
   -- whatever writes the rest from here on has written all that follows the first string
   abbrev pub Going : (out₀ : Text) (past₀ : ℕ) (out : Text) (past i : ℕ) → Type 0
@@ -88,21 +84,11 @@ module _ (g : Checked) (begin count : ℕ) where
   pub record Summed (sofar i : ℕ) : Type 0 where
     pub whole : sofar + total (left_of i) ≡ total (strings_of g count begin)
     pub few : sofar ≤ word_size * i
-    pub within : i ≤ count
-
-  pub summed-none : Summed 0 0
-  summed-none = record { whole = rw (sub-zero, add-zero) (zero-add _); few = lit≤ tt; within = omega arith }
 
   pub summed-next : {sofar i long : ℕ} → i < count → long ≡ length (string_of g (begin + i)) → long < word_size → Summed sofar i → Summed (sofar + long) (i + 1)
-  summed-next {i = i} h e l s = record { whole = omega (arith, ap total (left-next i h), s.whole); few = omega (arith, s.few); within = omega arith }
+  summed-next {i = i} h e l s = record { whole = omega (arith, ap total (left-next i h), s.whole); few = omega (arith, s.few) }
 
-  pub summed-all : {sofar i : ℕ} → count ≤ i → Summed sofar i → sofar ≡ total (strings_of g count begin)
-  summed-all {i = i} h s = omega (arith, ap total (left-none i h), s.whole)
-
-  pub list-zero : count ≡ 0 → list_length (strings_of g count begin) ≡ 0
-  list-zero e = rw e
-
-  pub list-some : (count ≡ 0 → ⊥) → list_length (strings_of g count begin) ≡ total (strings_of g count begin) + 3 * count - 1
-  list-some n =
+  pub list_some : (count ≡ 0 → ⊥) → list_length (strings_of g count begin) ≡ total (strings_of g count begin) + 3 * count - 1
+  list_some n =
       let long : length (left_of 1) ≡ count - 1 = simp (length-map, length-spans_at) in
       ap list_length (left-first n) ∙ (rw (left-first n) (omega (arith, long, n)))

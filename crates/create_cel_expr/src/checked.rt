@@ -21,6 +21,7 @@ impl<'a> Checked<'a> {
     ghost use Rattle.create_cel_expr.specs.Given.{count_of, string_of, word_size};
 
     // String i.
+    #[tactic(auto, using(cel_text::proofs::Laws::Part::part_slice))]
     pub(crate) fn string(&self, i: usize) -> &'a [u8]
         requires { i < count_of self.now }
         ensures part { result.now ≡ string_of self.now i }

@@ -46,6 +46,7 @@ fn inside(text: &[u8], spans: &[u32], i: usize) -> bool
 }
 
 // 21: the first string whose span is not.
+#[tactic(auto, using(crate::proofs::Faults::search_on))]
 fn all_inside(text: &[u8], spans: &[u32], count: usize) -> Result<(), Refusal>
     requires { count ≤ max_response_only }
     ensures { judged_as result ≡ unless_faulty 21 (first_fault (span_fits spans.now text.now) count 0) clean }
@@ -59,6 +60,7 @@ fn all_inside(text: &[u8], spans: &[u32], count: usize) -> Result<(), Refusal>
 }
 
 // Whether string i has string bytes only.
+#[tactic(auto, using(crate::proofs::Faults::run_all), unfolding(cel_policy::specs::Answers::bytes_fit))]
 fn plain(given: &Checked, i: usize) -> bool
     requires { i < count_of given.now }
     ensures { result ≡ bytes_fit string_set given.now.spans.now given.now.text.now i }
@@ -69,6 +71,7 @@ fn plain(given: &Checked, i: usize) -> bool
 }
 
 // 22: the first string that has another byte.
+#[tactic(auto, using(crate::proofs::Faults::search_on))]
 fn all_plain(given: &Checked) -> Result<(), Refusal>
     ensures { judged_as result ≡ unless_faulty 22 (first_fault (bytes_fit string_set given.now.spans.now given.now.text.now) (count_of given.now) 0) clean }
 {

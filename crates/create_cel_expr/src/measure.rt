@@ -21,6 +21,7 @@ fn strings(given: &Checked, begin: usize, count: usize) -> usize
 }
 
 // A list's text.
+#[tactic(auto, using(crate::proofs::Lists::list_some))]
 fn list(given: &Checked, begin: usize, count: usize) -> usize
     requires { begin + count ≤ count_of given.now }
     ensures long { result ≡ list_length (strings_of given.now count begin) }
