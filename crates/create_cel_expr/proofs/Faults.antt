@@ -1,9 +1,9 @@
 -- The search for the first faulty string, from string i on, and the run that a string of string bytes only is. Assumes nothing.
-use Rattle.std.proofs.Common.{◌≡◌, ℕ, suc, ◌+◌, ◌-◌, ◌<◌, ◌≤◌, Bool, true, false, cond, eqb, [], ◌∷◌, length, sym, refl, ap, ◌∙◌, zero-add, arith}
-use Rattle.std.proofs.Math.Option.{Option, none, some}
+use Rattle.std.proofs.Common.{◌≡◌, ℕ, suc, ◌+◌, ◌-◌, ◌<◌, Bool, true, false, cond, eqb, [], ◌∷◌, length, sym, refl, ap, ◌∙◌, zero-add, arith}
+use Rattle.std.proofs.Math.Option.{some}
 use Rattle.std.proofs.Math.Dec.{eqb-suc-suc, eqb-zero-suc}
 use Rattle.cel_text.specs.Byte.{Text, lead}
-use Rattle.cel_policy.specs.Answers.{first_fault, all_of, Judgement, clean, faulty, unless_faulty}
+use Rattle.cel_policy.specs.Answers.{first_fault, all_of}
 use Rattle.parser.specs.Run.{end_of}
 
 module _ (test : ℕ → Bool) (count : ℕ) where
@@ -18,23 +18,8 @@ module _ (test : ℕ → Bool) (count : ℕ) where
       ap (λ (k : ℕ). first_fault test k i) m ∙ ap (λ (k : ℕ). cond (test i) (first_fault test (count - (i + 1)) k) (some i)) n
 
   -- string i passes
-  pub search-on : {i : ℕ} {r : Bool} → i < count → r ≡ test i → r ≡ true → Searched i → Searched (i + 1)
-  search-on h e t s = sym (search-next h ∙ rw (sym e ∙ t)) ∙ s
-
-  module _ (refusal : ℕ) where
-    abbrev fault : Option ℕ → Judgement
-    fault o = unless_faulty refusal o clean
-
-    -- it does not
-    pub search-found : {i : ℕ} {r : Bool} → i < count → r ≡ test i → r ≡ false → Searched i → faulty refusal i ≡ fault (first_fault test count 0)
-    search-found {i = i} h e t s = let found : first_fault test (count - i) i ≡ some i = search-next h ∙ rw (sym e ∙ t) in ap fault (sym found ∙ s)
-
-    -- all have passed
-    pub search-over : {i : ℕ} → count ≤ i → Searched i → clean ≡ fault (first_fault test count 0)
-    search-over {i = i} h s =
-        let m : count - i ≡ 0 = omega arith in
-        let over : first_fault test (count - i) i ≡ none = rw m in
-        ap fault (sym over ∙ s)
+  pub search_on : {i : ℕ} {r : Bool} → i < count → r ≡ test i → r ≡ true → Searched i → Searched (i + 1)
+  search_on h e t s = sym (search-next h ∙ rw (sym e ∙ t)) ∙ s
 
 -- a string has bytes of one class only where a run of that class goes to its end
 all-lead : (f : ℕ → Bool) (c : Text) → eqb (lead f c) (length c) ≡ all_of f c
@@ -45,5 +30,5 @@ all-lead f (b ∷ bs) = by (all-lead f bs) (f b)
     by h true = eqb-suc-suc (lead f bs) (length bs) ∙ h
     by h false = eqb-zero-suc (length bs)
 
-pub run-all : (f : ℕ → Bool) {c s : Text} {end : ℕ} → s ≡ c → end ≡ end_of f s 0 → eqb end (length s) ≡ all_of f c
-run-all f {s = s} e h = ap (λ (n : ℕ). eqb n (length s)) (h ∙ zero-add (lead f s)) ∙ all-lead f s ∙ ap (all_of f) e
+pub run_all : (f : ℕ → Bool) {c s : Text} {end : ℕ} → s ≡ c → end ≡ end_of f s 0 → eqb end (length s) ≡ all_of f c
+run_all f {s = s} e h = ap (λ (n : ℕ). eqb n (length s)) (h ∙ zero-add (lead f s)) ∙ all-lead f s ∙ ap (all_of f) e

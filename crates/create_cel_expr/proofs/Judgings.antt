@@ -1,18 +1,19 @@
--- Judging step by step, what is known of what was judged, and printing after it. Assumes nothing.
-use Rattle.std.proofs.Common.{◌≡◌, ℕ, ◌≤◌, Bool, true, false, length, sym, refl, ap, ◌∙◌, subst}
+-- Judging step by step, and printing after it. Assumes nothing.
+use Rattle.std.proofs.Common.{◌≡◌, ℕ, ◌<◌, ◌≤◌, Bool, true, false, sym, ap, ◌∙◌, subst, zero-add, Result, Ok, Err, IfOk}
+use Rattle.std.proofs.lemmas.Result.{err_from_is_err_and}
 use Rattle.cel_text.specs.Byte.{Text}
 use Rattle.cel_text.specs.Table.{Words}
-use Rattle.cel_policy.specs.Policy.{Counted, string_count, strings}
-use Rattle.cel_policy.specs.Printed.{printed, shaped, max_response_only}
-use Rattle.cel_policy.specs.Answers.{placed, span_fits, bytes_fit, any_byte, first_fault, Judgement, clean, faulty, unless_faulty, judgement}
-use Rattle.cel_policy.specs.Answers.{unprinted, unless_judged, sized, find_print, PrintAnswer, print_answered, print_answer, print_output}
-use Rattle.cel_policy.proofs.Laws.SpanTable.{Faultless, clean-faultless}
-use Rattle.cel_policy.specs.Inside.{SpansInside}
-use Rattle.cel_policy.proofs.Laws.Judging.{faultless-inside, shaped-few, SmallPlace, judgement-small, then_judged, judgement-any, judgement-then}
-use Rattle.create_cel_expr.specs.declared.Judged.{Judged}
-use Rattle.create_cel_expr.specs.declared.Judged.TheVariants.{Clean, Faulty}
-use Rattle.create_cel_expr.specs.Judged.{judged_as, Judges, printing}
-use Rattle.create_cel_expr.proofs.Sizes.{Gave}
+use Rattle.cel_policy.specs.Policy.{Counted, string_count, numbers}
+use Rattle.cel_policy.specs.Printed.{shaped, max_response_only}
+use Rattle.cel_policy.specs.Answers.{span_fits, bytes_fit, any_byte, first_fault, Judgement, clean, faulty, unless_faulty, judgement, find_print}
+use Rattle.cel_policy.specs.Inside.{SpanInside}
+use Rattle.cel_policy.specs.declared.Policy.{Policy}
+use Rattle.cel_policy.proofs.Laws.SpanTable.{clean-faultless}
+use Rattle.cel_policy.proofs.Laws.Judging.{faultless-inside, shaped-few, then_judged, judgement-any, judgement-then}
+use Rattle.create_cel_expr.specs.declared.refusal.Refusal.{Refusal}
+use Rattle.create_cel_expr.specs.declared.checked.Checked.{Checked}
+use Rattle.create_cel_expr.specs.Given.{IsOf, count_of}
+use Rattle.create_cel_expr.specs.Judged.{judged_as, printing}
 
 module _ (k : Counted) (ws : Words) (x : Text) where
   -- 20, and 21 after it
@@ -26,48 +27,31 @@ module _ (k : Counted) (ws : Words) (x : Text) where
     pub judged-21 : r ≡ true → {n : ℕ} {j : Judgement} → n ≡ string_count k → j ≡ unless_faulty 21 (first_fault (span_fits ws x) n 0) clean → j ≡ judgement any_byte k ws x
     judged-21 t h f = rw (judgement-any k ws x, sym e ∙ t) (f ∙ ap (λ (n : ℕ). unless_faulty 21 (first_fault (span_fits ws x) n 0) clean) h)
 
+  -- without fault each string lies inside
+  pub judged-inside : clean ≡ judgement any_byte k ws x → (i : ℕ) → i < string_count k → SpanInside ws x i
+  judged-inside e i h = subst (SpanInside ws x) (zero-add i) (faultless-inside (clean-faultless any_byte k ws x (sym e)) i h)
+
   -- 22 after both
-  abbrev odd : (ℕ → Bool) → ℕ → Judgement
-  odd S n = unless_faulty 22 (first_fault (bytes_fit S ws x) n 0) clean
+  module _ (S : ℕ → Bool) where
+    pub judged-faulty : {r i : ℕ} → faulty r i ≡ judgement any_byte k ws x → faulty r i ≡ judgement S k ws x
+    judged-faulty e = ap (λ (g : Judgement). then_judged g (unless_faulty 22 (first_fault (bytes_fit S ws x) (string_count k) 0) clean)) e ∙ sym (judgement-then k ws x S)
 
-  module _ (j : Judged) (e : judged_as j ≡ judgement any_byte k ws x) (S : ℕ → Bool) where
-    after : {g : Judged} → j ≡ g → judgement S k ws x ≡ then_judged (judged_as g) (odd S (string_count k))
-    after f = judgement-then k ws x S ∙ ap (λ (g : Judgement). then_judged g (odd S (string_count k))) (sym e ∙ ap judged_as f)
-
-    pub judged-faulty : {r i : ℕ} → j ≡ Faulty r i → judged_as j ≡ judgement S k ws x
-    judged-faulty f = ap judged_as f ∙ sym (after f)
-
-    pub judged-22 : {n : ℕ} {g : Judgement} → j ≡ Clean → n ≡ string_count k → g ≡ odd S n → g ≡ judgement S k ws x
-    judged-22 f h i = i ∙ ap (odd S) h ∙ sym (after f)
-
-  pub judged-inside : (j : Judged) {n : ℕ} → judged_as j ≡ judgement any_byte k ws x → j ≡ Clean → n ≡ string_count k → SpansInside ws x n 0
-  judged-inside j e f h = rw h (faultless-inside (clean-faultless any_byte k ws x (sym e ∙ ap judged_as f)))
-
-  -- what was judged, by whatever set
-  module _ {j : Judged} (h : Judges k ws x j) where
-    pub judges-small : {r i : ℕ} → j ≡ Faulty r i → i ≤ max_response_only
-    judges-small e = subst SmallPlace (sym h.same ∙ ap judged_as e) (judgement-small h.set k ws x)
-
-    faultless : j ≡ Clean → Faultless h.set k ws x
-    faultless e = clean-faultless h.set k ws x (sym h.same ∙ ap judged_as e)
-
-    pub judges-inside : j ≡ Clean → SpansInside ws x (string_count k) 0
-    judges-inside e = faultless-inside (faultless e)
-
-    pub judges-few : j ≡ Clean → string_count k ≤ max_response_only
-    judges-few e = shaped-few k (faultless e).shape
+-- what was judged over all bytes is of that policy, text and table
+module _ (S : ℕ → Bool) (p : Policy) (ws : Words) (x : Text) where
+  pub judged-22 :
+      (g : Checked) {j : Judgement} → IsOf p x ws g → clean ≡ judgement any_byte (numbers p) ws x
+      → j ≡ unless_faulty 22 (first_fault (bytes_fit S g.spans.now g.text.now) (count_of g) 0) clean → j ≡ judgement S (numbers p) ws x
+  judged-22 g s e f =
+      rw (s.0, s.1, s.2) at f
+      ∙ ap (λ (g : Judgement). then_judged g (unless_faulty 22 (first_fault (bytes_fit S ws x) (string_count (numbers p)) 0) clean)) e
+      ∙ sym (judgement-then (numbers p) ws x S)
 
   -- what is printed after it
-  module _ (j : Judged) (out : Text) where
-    pub gave-faulty : {a : PrintAnswer} {r i : ℕ} → j ≡ Faulty r i → a ≡ print_answered (unprinted r i) → Gave a out out (printing j k ws x (length out))
-    gave-faulty f e = rw f (e, refl)
+  pub printing_found :
+      (room : ℕ) (j : Result Checked Refusal) → judged_as j ≡ judgement S (numbers p) ws x → IfOk j (IsOf p x ws)
+      → printing j room ≡ find_print S (numbers p) ws x room
+  unfolding find_print
+  printing_found room (Ok c) e s = rw (sym e, s.0, s.1, s.2)
+  printing_found room (Err f) e s = rw (sym e)
 
-    module _ {a : PrintAnswer} {out' : Text} where
-      pub gave-clean : j ≡ Clean → Gave a out out' (sized (printed (strings x (placed k ws))) (length out)) → Gave a out out' (printing j k ws x (length out))
-      gave-clean f t = rw f t
-
-      pub gave-by :
-          (S : ℕ → Bool) → judged_as j ≡ judgement S k ws x → Gave a out out' (printing j k ws x (length out))
-          → (a ≡ print_answer S k ws x (length out)) × (out' ≡ print_output S k ws x out)
-      unfolding print_answer print_output find_print
-      gave-by S e t = subst (λ (g : Judgement). Gave a out out' (unless_judged g (sized (printed (strings x (placed k ws))) (length out)))) e t
+pub ruleset judging = (judged-20, judged-few, judged-21, judged-inside, judged-faulty, judged-22, err_from_is_err_and)

@@ -1,5 +1,5 @@
 pub mod Lists
 pub mod Faults
-pub mod Shapes
 pub mod Sizes
 pub mod Judgings
+pub mod Writing

@@ -1,18 +1,13 @@
 -- The strings of a list one after the other, as they are written and as their lengths are added up. Assumes nothing.
-use Rattle.std.proofs.Common.{◌≡◌, ℕ, suc, ◌+◌, ◌-◌, ◌*◌, ◌<◌, ◌≤◌, List, [], ◌∷◌, ◌++◌, length, sym, ap, ◌∙◌, subst, append_assoc, append-nil, add-zero, zero-add, arith, lit≤}
-use Rattle.std.proofs.Math.Nat.{sub-zero}
+use Rattle.std.proofs.Common.{◌≡◌, ℕ, suc, ◌+◌, ◌-◌, ◌*◌, ◌<◌, ◌≤◌, List, [], ◌∷◌, ◌++◌, length, sym, ap, ◌∙◌, append_assoc, append-nil, arith}
 use Rattle.std.proofs.Math.ListN.{length-map}
-use Rattle.std.proofs.Math.Seq.{length-slice}
 use Rattle.cel_text.specs.Byte.{Text, bytes}
-use Rattle.cel_text.specs.Table.{Words}
-use Rattle.cel_policy.specs.Policy.{Counted, string_count, content}
-use Rattle.cel_policy.specs.Spans.{span_at}
 use Rattle.cel_policy.specs.Printed.{joined, list_text, total, list_length}
 use Rattle.cel_policy.proofs.Laws.SpanTable.{length-spans_at}
-use Rattle.cel_policy.specs.Inside.{SpanInside, SpansInside}
 use Rattle.pieces.specs.Pieces.{Wrote, Fits}
-use Rattle.pieces.specs.Laws.{wrote_none, wrote_as, wrote_then, fits-as}
-use Rattle.create_cel_expr.specs.Given.{strings_at, word_size}
+use Rattle.pieces.specs.Laws.{wrote_as, wrote_then, fits-as}
+use Rattle.create_cel_expr.specs.declared.checked.Checked.{Checked}
+use Rattle.create_cel_expr.specs.Given.{string_of, strings_of, word_size}
 
 -- strings after another one
 abbrev pub tails : List Text → Text
@@ -23,25 +18,25 @@ joined-tails : (s : Text) (more : List Text) → joined s more ≡ s ++ tails mo
 joined-tails s [] = sym (append-nil s)
 joined-tails s (t ∷ more) = ap (λ (r : Text). s ++ (bytes "\",\"" ++ r)) (joined-tails t more)
 
-module _ (x : Text) (ws : Words) (begin count : ℕ) where
+module _ (g : Checked) (begin count : ℕ) where
   -- the strings that are left once i of them are passed
   abbrev pub left_of : ℕ → List Text
-  left_of i = strings_at x ws (count - i) (begin + i)
+  left_of i = strings_of g (count - i) (begin + i)
 
-  left-next : (i : ℕ) → i < count → left_of i ≡ content x (span_at ws (begin + i)) ∷ left_of (i + 1)
+  left-next : (i : ℕ) → i < count → left_of i ≡ string_of g (begin + i) ∷ left_of (i + 1)
   left-next i h =
       let m : count - i ≡ suc (count - (i + 1)) = omega arith in
       let n : suc (begin + i) ≡ begin + (i + 1) = omega arith in
-      rw m (ap (λ (k : ℕ). content x (span_at ws (begin + i)) ∷ strings_at x ws (count - (i + 1)) k) n)
+      rw m (ap (λ (k : ℕ). string_of g (begin + i) ∷ strings_of g (count - (i + 1)) k) n)
 
   left-none : (i : ℕ) → count ≤ i → left_of i ≡ []
   left-none i h = let m : count - i ≡ 0 = omega arith in rw m
 
-  left-first : (count ≡ 0 → ⊥) → strings_at x ws count begin ≡ content x (span_at ws begin) ∷ left_of 1
+  left-first : (count ≡ 0 → ⊥) → strings_of g count begin ≡ string_of g begin ∷ left_of 1
   left-first n =
       let m : count ≡ suc (count - 1) = omega (arith, n) in
       let b : suc begin ≡ begin + 1 = omega arith in
-      ap (λ (k : ℕ). strings_at x ws k begin) m ∙ ap (λ (k : ℕ). content x (span_at ws begin) ∷ strings_at x ws (count - 1) k) b
+      ap (λ (k : ℕ). strings_of g k begin) m ∙ ap (λ (k : ℕ). string_of g begin ∷ strings_of g (count - 1) k) b
 
   -- ---- written
 
@@ -49,28 +44,25 @@ module _ (x : Text) (ws : Words) (begin count : ℕ) where
   abbrev pub rest_of : ℕ → Text
   rest_of i = tails (left_of i) ++ bytes "\""
 
-  pub wrote-empty : (out : Text) (at : ℕ) → count ≡ 0 → Wrote out out at at (list_text (strings_at x ws count begin))
-  wrote-empty out at e = rw e (wrote_none out at)
-
   -- whatever writes the rest from here on has written all that follows the first string
   abbrev pub Going : (out₀ : Text) (past₀ : ℕ) (out : Text) (past i : ℕ) → Type 0
   Going out₀ past₀ out past i = (out' : Text) (past' : ℕ) → Wrote out out' past past' (rest_of i) → Wrote out₀ out' past₀ past' (rest_of 1)
 
-  rest-next : (i : ℕ) → i < count → rest_of i ≡ (bytes "\",\"" ++ content x (span_at ws (begin + i))) ++ rest_of (i + 1)
+  rest-next : (i : ℕ) → i < count → rest_of i ≡ (bytes "\",\"" ++ string_of g (begin + i)) ++ rest_of (i + 1)
   rest-next i h = rw (left-next i h) (simp append_assoc)
 
   rest-last : (i : ℕ) → count ≤ i → rest_of i ≡ bytes "\""
   rest-last i h = rw (left-none i h)
 
-  list-first : (count ≡ 0 → ⊥) → list_text (strings_at x ws count begin) ≡ (bytes "\"" ++ content x (span_at ws begin)) ++ rest_of 1
+  list-first : (count ≡ 0 → ⊥) → list_text (strings_of g count begin) ≡ (bytes "\"" ++ string_of g begin) ++ rest_of 1
   list-first n =
-      ap list_text (left-first n) ∙ ap (λ (r : Text). bytes "\"" ++ (r ++ bytes "\"")) (joined-tails (content x (span_at ws begin)) (left_of 1)) ∙ simp append_assoc
+      ap list_text (left-first n) ∙ ap (λ (r : Text). bytes "\"" ++ (r ++ bytes "\"")) (joined-tails (string_of g begin) (left_of 1)) ∙ simp append_assoc
 
   -- room for the list is room for its first string and for what follows, and so on
-  pub room-list : {out : Text} {at : ℕ} → (count ≡ 0 → ⊥) → Fits out at (list_text (strings_at x ws count begin)) → Fits out at ((bytes "\"" ++ content x (span_at ws begin)) ++ rest_of 1)
+  pub room-list : {out : Text} {at : ℕ} → (count ≡ 0 → ⊥) → Fits out at (list_text (strings_of g count begin)) → Fits out at ((bytes "\"" ++ string_of g begin) ++ rest_of 1)
   room-list n f = fits-as (list-first n) f
 
-  pub room_next : {out : Text} {past i : ℕ} → i < count → Fits out past (rest_of i) → Fits out past ((bytes "\",\"" ++ content x (span_at ws (begin + i))) ++ rest_of (i + 1))
+  pub room_next : {out : Text} {past i : ℕ} → i < count → Fits out past (rest_of i) → Fits out past ((bytes "\",\"" ++ string_of g (begin + i)) ++ rest_of (i + 1))
   room_next {i = i} h f = fits-as (rest-next i h) f
 
   pub room-last : {out : Text} {past i : ℕ} → count ≤ i → Fits out past (rest_of i) → Fits out past (bytes "\"")
@@ -78,42 +70,25 @@ module _ (x : Text) (ws : Words) (begin count : ℕ) where
 
   pub going_next :
       {out₀ out out'' : Text} {past₀ past past'' i : ℕ} → i < count → Going out₀ past₀ out past i
-      → Wrote out out'' past past'' (bytes "\",\"" ++ content x (span_at ws (begin + i))) → Going out₀ past₀ out'' past'' (i + 1)
+      → Wrote out out'' past past'' (bytes "\",\"" ++ string_of g (begin + i)) → Going out₀ past₀ out'' past'' (i + 1)
   going_next {i = i} h g w out' past' v = g out' past' (wrote_as (sym (rest-next i h)) (wrote_then w v))
 
   pub going-last :
-      {out₀ out₁ out out' : Text} {at past₁ past past' i : ℕ} → (count ≡ 0 → ⊥) → Wrote out₀ out₁ at past₁ (bytes "\"" ++ content x (span_at ws begin))
-      → count ≤ i → Going out₁ past₁ out past i → Wrote out out' past past' (bytes "\"") → Wrote out₀ out' at past' (list_text (strings_at x ws count begin))
+      {out₀ out₁ out out' : Text} {at past₁ past past' i : ℕ} → (count ≡ 0 → ⊥) → Wrote out₀ out₁ at past₁ (bytes "\"" ++ string_of g begin)
+      → count ≤ i → Going out₁ past₁ out past i → Wrote out out' past past' (bytes "\"") → Wrote out₀ out' at past' (list_text (strings_of g count begin))
   going-last {out' = out'} {past' = past'} {i = i} n w h g v = wrote_as (sym (list-first n)) (wrote_then w (g out' past' (wrote_as (sym (rest-last i h)) v)))
 
   -- ---- added up
 
   -- the sum so far and the strings that are left come to all of them, and no string passes a word
   pub record Summed (sofar i : ℕ) : Type 0 where
-    pub whole : sofar + total (left_of i) ≡ total (strings_at x ws count begin)
+    pub whole : sofar + total (left_of i) ≡ total (strings_of g count begin)
     pub few : sofar ≤ word_size * i
-    pub within : i ≤ count
 
-  pub string-short : {i : ℕ} {s : Text} → SpanInside ws x i → (span_at ws i).to ≤ word_size → s ≡ content x (span_at ws i) → length s ≤ word_size
-  string-short {i = i} h l e = omega (arith, ap length e, length-slice (span_at ws i).from (span_at ws i).to x h.in_text)
+  pub summed-next : {sofar i long : ℕ} → i < count → long ≡ length (string_of g (begin + i)) → long < word_size → Summed sofar i → Summed (sofar + long) (i + 1)
+  summed-next {i = i} h e l s = record { whole = omega (arith, ap total (left-next i h), s.whole); few = omega (arith, s.few) }
 
-  pub summed-none : Summed 0 0
-  summed-none = record { whole = rw (sub-zero, add-zero) (zero-add _); few = lit≤ tt; within = omega arith }
-
-  pub summed-next : {sofar i long : ℕ} → i < count → long ≡ length (content x (span_at ws (begin + i))) → long ≤ word_size → Summed sofar i → Summed (sofar + long) (i + 1)
-  summed-next {i = i} h e l s = record { whole = omega (arith, ap total (left-next i h), s.whole); few = omega (arith, s.few); within = omega arith }
-
-  pub summed-all : {sofar i : ℕ} → count ≤ i → Summed sofar i → sofar ≡ total (strings_at x ws count begin)
-  summed-all {i = i} h s = omega (arith, ap total (left-none i h), s.whole)
-
-  pub list-zero : count ≡ 0 → list_length (strings_at x ws count begin) ≡ 0
-  list-zero e = rw e
-
-  pub list-some : (count ≡ 0 → ⊥) → list_length (strings_at x ws count begin) ≡ total (strings_at x ws count begin) + 3 * count - 1
-  list-some n =
+  pub list_some : (count ≡ 0 → ⊥) → list_length (strings_of g count begin) ≡ total (strings_of g count begin) + 3 * count - 1
+  list_some n =
       let long : length (left_of 1) ≡ count - 1 = simp (length-map, length-spans_at) in
       ap list_length (left-first n) ∙ (rw (left-first n) (omega (arith, long, n)))
-
--- what lies inside where all do: any strings of the policy that follow one another
-pub inside-part : {ws : Words} {x : Text} (k : Counted) → SpansInside ws x (string_count k) 0 → (b n : ℕ) → b + n ≤ string_count k → SpansInside ws x n b
-inside-part {ws = ws} {x = x} k all b n le i lt = subst (SpanInside ws x) (zero-add (b + i)) (all (b + i) (omega arith))

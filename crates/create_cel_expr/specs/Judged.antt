@@ -1,22 +1,36 @@
--- What judging answers, in the terms of `cel_policy`. Assumes nothing.
-use Rattle.std.specs.Prelude.{◌≡◌, ℕ, Bool}
-use Rattle.cel_text.specs.Byte.{Text}
-use Rattle.cel_text.specs.Table.{Words}
-use Rattle.cel_policy.specs.Policy.{Counted, strings}
+-- What judging and printing answer, in the terms of `cel_policy`. Assumes nothing.
+use Rattle.std.specs.Prelude.{ℕ, Result, Ok, Err}
 use Rattle.cel_policy.specs.Printed.{printed}
-use Rattle.cel_policy.specs.Answers.{placed, Judgement, clean, faulty, judgement, Printing, unless_judged, sized}
-use Rattle.create_cel_expr.specs.declared.Judged.{Judged}
-use Rattle.create_cel_expr.specs.declared.Judged.TheVariants.{Clean, Faulty}
+use Rattle.cel_policy.specs.Answers.{Judgement, clean, faulty, Printing, unprinted, sized, PrintAnswer}
+use Rattle.create_cel_expr.specs.declared.refusal.Refusal.{Refusal}
+use Rattle.create_cel_expr.specs.declared.refusal.Refusal.TheVariants.{WrongShape, SpanOutside, NoStringByte, TooLong, OutputTooShort}
+use Rattle.create_cel_expr.specs.declared.checked.Checked.{Checked}
+use Rattle.create_cel_expr.specs.Given.{policy_of}
 
-abbrev pub judged_as : Judged → Judgement
-judged_as Clean = clean
-judged_as (Faulty r i) = faulty r i
+abbrev pub number_of : Refusal → ℕ
+number_of WrongShape = 20
+number_of (SpanOutside i) = 21
+number_of (NoStringByte i) = 22
+number_of TooLong = 23
+number_of OutputTooShort = 24
 
--- what judging by some set of string bytes answers
-pub record Judges (k : Counted) (ws : Words) (x : Text) (j : Judged) : Type 0 where
-  pub set : ℕ → Bool
-  pub same : judged_as j ≡ judgement set k ws x
+-- the string that it names
+abbrev pub place_of : Refusal → ℕ
+place_of WrongShape = 0
+place_of (SpanOutside i) = i
+place_of (NoStringByte i) = i
+place_of TooLong = 0
+place_of OutputTooShort = 0
 
--- what is printed of a policy on which judging has answered j, into an output of `room` bytes
-abbrev pub printing : Judged → Counted → Words → Text → (room : ℕ) → Printing
-printing j k ws x room = unless_judged (judged_as j) (sized (printed (strings x (placed k ws))) room)
+abbrev pub judged_as : {A : Type 0} → Result A Refusal → Judgement
+judged_as (Ok a) = clean
+judged_as (Err e) = faulty (number_of e) (place_of e)
+
+abbrev pub printed_as : Result ℕ Refusal → PrintAnswer
+printed_as (Ok n) = record { refusal = 0; name = 0; kind = 0; place = 0; length = n }
+printed_as (Err e) = record { refusal = number_of e; name = 0; kind = 0; place = place_of e; length = 0 }
+
+-- what is printed where judging has answered j, into an output of `room` bytes
+abbrev pub printing : Result Checked Refusal → (room : ℕ) → Printing
+printing (Ok c) room = sized (printed (policy_of c)) room
+printing (Err e) room = unprinted (number_of e) (place_of e)

@@ -2,21 +2,24 @@
 // printable is refused, and the output left alone then. The contracts cite the definitions of `cel_policy` and ask nothing of the caller.
 #![tactic(auto)]
 
+mod checked;
 mod judge;
 mod measure;
+mod refusal;
 mod span;
 mod write;
 
-ghost use Rattle.std.specs.Prelude.{◌≡◌, ◌≤◌, length};
+ghost use Rattle.std.specs.Prelude.{◌≡◌, length};
 ghost use Rattle.cel_policy.specs.Policy.{numbers};
-ghost use Rattle.cel_policy.specs.Printed.{max_response_only};
-ghost use Rattle.cel_policy.specs.Answers.{any_byte, judgement, unprinted, print_answered, output, print_answer, print_output};
-ghost use Rattle.create_cel_expr.specs.Given.{print_told};
+ghost use Rattle.cel_policy.specs.Answers.{any_byte, judgement, print_answered, output, print_answer, print_output};
 ghost use Rattle.parser.specs.Set.{string_set};
-ghost use Rattle.create_cel_expr.specs.Judged.{judged_as, Judges, printing};
+ghost use Rattle.create_cel_expr.specs.Given.{print_told};
+ghost use Rattle.create_cel_expr.specs.Judged.{judged_as, printed_as, printing};
 
 use cel_policy::Policy;
+use checked::Checked;
 use parser::MAX_TEXT;
+pub use refusal::Refusal;
 
 // The answer of printing: its five numbers.
 #[derive(Clone, Copy)]
@@ -26,13 +29,6 @@ pub struct Printed {
     pub kind: u32,
     pub place: u32,
     pub length: u32,
-}
-
-// What judging a policy finds: nothing, or the refusal's number and the string that it names.
-#[derive(Clone, Copy)]
-pub enum Judged {
-    Clean,
-    Faulty(u32, usize),
 }
 
 // Refusals of printing.
@@ -46,72 +42,65 @@ pub const PRINTED_TOO_LONG: u32 = 23;
 
 pub const OUTPUT_TOO_SHORT: u32 = 24;
 
+// The printed length or the refusal, as numbers.
+impl From<Result<u32, Refusal>> for Printed {
+    ghost from_gives = { λ printed p. print_told p ≡ printed_as printed };
+
+    fn from(printed: Result<u32, Refusal>) -> Printed {
+        let (refusal, place, length) = match printed {
+            Ok(length) => (0, 0, length),
+            Err(refusal) => (refusal.number(), refusal.place(), 0),
+        };
+        Printed {
+            refusal,
+            name: 0,
+            kind: 0,
+            place,
+            length,
+        }
+    }
+}
+
 // Judges a policy given by anyone: its shape, then every span, then every string's bytes.
-pub fn judge_policy(policy: Policy, text: &[u8], spans: &[u32]) -> Judged
+pub fn judge_policy(policy: Policy, text: &[u8], spans: &[u32]) -> Result<(), Refusal>
     ensures { judged_as result ≡ judgement string_set (numbers policy) spans.now text.now }
 {
-    judge::over_set(policy, text, spans)
+    judge::over_set(policy, text, spans)?;
+    Ok(())
 }
 
 // Writes the policy's text to the front of `out`, or refuses with 20 to 24 and leaves `out` as it is.
+#[tactic(auto, using(crate::proofs::Judgings::printing_found), unfolding(cel_policy::specs::Answers::print_answer, cel_policy::specs::Answers::print_output))]
 pub fn print_policy(policy: Policy, text: &[u8], spans: &[u32], out: &mut [u8]) -> Printed
     ensures answer { print_told result ≡ print_answer string_set (numbers policy) spans.now text.now (length out.old) }
     ensures output { out.new ≡ print_output string_set (numbers policy) spans.now text.now out.old }
 {
-    let judged = judge_policy(policy, text, spans);
-    print_judged(judged, policy, text, spans, out)
+    Printed::from(print(judge::over_set(policy, text, spans), out))
 }
 
 // The same where any byte may stand in a string, as for strings that were read: 22 falls away.
+#[tactic(auto, using(crate::proofs::Judgings::printing_found), unfolding(cel_policy::specs::Answers::print_answer, cel_policy::specs::Answers::print_output))]
 pub fn print_any(policy: Policy, text: &[u8], spans: &[u32], out: &mut [u8]) -> Printed
     ensures answer { print_told result ≡ print_answer any_byte (numbers policy) spans.now text.now (length out.old) }
     ensures output { out.new ≡ print_output any_byte (numbers policy) spans.now text.now out.old }
 {
-    let judged = judge::over_any(policy, text, spans);
-    print_judged(judged, policy, text, spans, out)
+    Printed::from(print(judge::over_any(policy, text, spans), out))
 }
 
 // What was judged over some set of string bytes: refused for its fault, or for its size with 23 or 24, or written.
-fn print_judged(
-    judged: Judged,
-    policy: Policy,
-    text: &[u8],
-    spans: &[u32],
-    out: &mut [u8],
-) -> Printed
-    requires { Judges (numbers policy) spans.now text.now judged }
-    ensures answer { print_told result ≡ print_answered (printing judged (numbers policy) spans.now text.now (length out.old)) }
-    ensures output { out.new ≡ output (printing judged (numbers policy) spans.now text.now (length out.old)) out.old }
+#[tactic(auto, using(crate::proofs::Sizes::sizes))]
+fn print(judged: Result<Checked, Refusal>, out: &mut [u8]) -> Result<u32, Refusal>
+    ensures answer { printed_as result ≡ print_answered (printing judged.entry (length out.old)) }
+    ensures output { out.new ≡ output (printing judged.entry (length out.old)) out.old }
 {
-    if let Judged::Faulty(refusal, index) = judged {
-        return refused(refusal, index);
-    }
-    let length = measure::printed_length(policy, text, spans);
+    let given = judged?;
+    let length = measure::printed_length(&given);
     if MAX_TEXT < length {
-        return refused(PRINTED_TOO_LONG, 0);
+        return Err(Refusal::TooLong);
     }
     if out.len() < length {
-        return refused(OUTPUT_TOO_SHORT, 0);
+        return Err(Refusal::OutputTooShort);
     }
-    write::create_cel_expr(out, policy, text, spans);
-    Printed {
-        refusal: 0,
-        name: 0,
-        kind: 0,
-        place: 0,
-        length: length as u32,
-    }
-}
-
-fn refused(refusal: u32, index: usize) -> Printed
-    requires { index ≤ max_response_only }
-    ensures { print_told result ≡ print_answered (unprinted refusal index) }
-{
-    Printed {
-        refusal,
-        name: 0,
-        kind: 0,
-        place: index as u32,
-        length: 0,
-    }
+    write::create_cel_expr(out, &given);
+    Ok(length as u32)
 }

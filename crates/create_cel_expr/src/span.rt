@@ -1,53 +1,32 @@
 // The span table: string i has its words 2 i and 2 i + 1; the request's strings come first, then the query's, then the response's.
 ghost use Rattle.std.specs.Prelude.{◌≡◌, suc, ◌+◌, ◌*◌, ◌<◌, length};
-ghost use Rattle.cel_policy.specs.Policy.{content, string_count, numbers};
+ghost use Rattle.cel_policy.specs.Policy.{string_count, numbers};
 ghost use Rattle.cel_policy.specs.Spans.{span_at};
-ghost use Rattle.cel_policy.specs.Inside.{SpanInside};
+ghost use Rattle.create_cel_expr.specs.Given.{word_size};
 
 use cel_policy::Policy;
+use std::ops::Range;
 
-fn wide(word: u32) -> usize
-    ensures { result ≡ word }
-{
-    word as usize
-}
-
-// Where string i begins.
-pub(crate) fn from(spans: &[u32], i: usize) -> usize
+// Where string i begins, and the place after its end.
+pub(crate) fn of(spans: &[u32], i: usize) -> Range<usize>
     requires { suc (2 * i) < length spans.now }
-    ensures { result ≡ (span_at spans.now i).from }
+    ensures start { result.start ≡ (span_at spans.now i).from }
+    ensures end { result.end ≡ (span_at spans.now i).to }
+    ensures word { result.end < word_size }
 {
-    wide(spans[2 * i])
-}
-
-// The place after its end.
-pub(crate) fn to(spans: &[u32], i: usize) -> usize
-    requires { suc (2 * i) < length spans.now }
-    ensures { result ≡ (span_at spans.now i).to }
-{
-    wide(spans[2 * i + 1])
-}
-
-// String i.
-pub(crate) fn string<'a, 'b>(text: &'a [u8], spans: &'b [u32], i: usize) -> &'a [u8]
-    requires { SpanInside spans.now text.now i }
-    ensures { result.now ≡ content text.now (span_at spans.now i) }
-{
-    let start = from(spans, i);
-    let end = to(spans, i);
-    &text[start..end]
+    spans[2 * i] as usize..spans[2 * i + 1] as usize
 }
 
 // The response's first string.
 pub(crate) fn response(policy: Policy) -> usize
     ensures { result ≡ policy.request + policy.query }
 {
-    wide(policy.request) + wide(policy.query)
+    policy.request as usize + policy.query as usize
 }
 
 // How many strings there are.
 pub(crate) fn count(policy: Policy) -> usize
     ensures { result ≡ string_count (numbers policy) }
 {
-    response(policy) + wide(policy.response)
+    response(policy) + policy.response as usize
 }

@@ -1,15 +1,13 @@
 // The text, piece by piece. Each function writes from a place on and answers the place after what it wrote.
-ghost use Rattle.std.specs.Prelude.{◌++◌};
+ghost use Rattle.std.specs.Prelude.{◌+◌, ◌<◌, ◌≤◌, ◌++◌};
 ghost use Rattle.cel_text.specs.Byte.{bytes};
-ghost use Rattle.cel_policy.specs.Policy.{content, string_count, numbers};
-ghost use Rattle.cel_policy.specs.Spans.{span_at};
 ghost use Rattle.cel_policy.specs.Printed.{list_text, list_key, request_text, response_text, skip_text, response_only_text, full_text, printed};
-ghost use Rattle.cel_policy.specs.Inside.{SpanInside, SpansInside};
 ghost use Rattle.pieces.specs.Pieces.{Wrote, Fits};
-ghost use Rattle.create_cel_expr.specs.Given.{policy_of, strings_at};
+ghost use Rattle.create_cel_expr.specs.Given.{count_of, string_of, strings_of, policy_of};
 
+use crate::checked::Checked;
 use crate::span;
-use cel_policy::{EXCLUSIONS, Policy, RESPONSE_ONLY, SKIP};
+use cel_policy::{EXCLUSIONS, RESPONSE_ONLY, SKIP};
 
 // A piece for which there is room. `pieces::put` has no such condition and would keep every literal in memory, to write its first bytes.
 fn put(out: &mut [u8], at: usize, piece: &[u8]) -> usize
@@ -21,83 +19,49 @@ fn put(out: &mut [u8], at: usize, piece: &[u8]) -> usize
     end
 }
 
-// String i.
-fn string(out: &mut [u8], at: usize, text: &[u8], spans: &[u32], i: usize) -> usize
-    requires span_inside { SpanInside spans.now text.now i }
-    requires fits { Fits out.old at (content text.now (span_at spans.now i)) }
-    ensures { Wrote out.old out.new at result (content text.now (span_at spans.now i)) }
+// String i, after what stands before it in its list.
+#[tactic(auto, using(crate::proofs::Writing::writing))]
+fn string(out: &mut [u8], at: usize, before: &[u8], given: &Checked, i: usize) -> usize
+    requires within { i < count_of given.now }
+    requires fits { Fits out.old at (before.now ++ string_of given.now i) }
+    ensures { Wrote out.old out.new at result (before.now ++ string_of given.now i) }
 {
-    put(out, at, span::string(text, spans, i))
-}
-
-// String i after the one before it.
-fn next(out: &mut [u8], at: usize, text: &[u8], spans: &[u32], i: usize) -> usize
-    requires span_inside { SpanInside spans.now text.now i }
-    requires fits { Fits out.old at (bytes "\",\"" ++ content text.now (span_at spans.now i)) }
-    ensures { Wrote out.old out.new at result (bytes "\",\"" ++ content text.now (span_at spans.now i)) }
-{
-    let past = put(out, at, b"\",\"");
-    string(out, past, text, spans, i)
-}
-
-// The first string of a list, after its quote.
-fn first(out: &mut [u8], at: usize, text: &[u8], spans: &[u32], i: usize) -> usize
-    requires span_inside { SpanInside spans.now text.now i }
-    requires fits { Fits out.old at (bytes "\"" ++ content text.now (span_at spans.now i)) }
-    ensures { Wrote out.old out.new at result (bytes "\"" ++ content text.now (span_at spans.now i)) }
-{
-    let past = put(out, at, b"\"");
-    string(out, past, text, spans, i)
-}
-
-// A list's last quote.
-fn last(out: &mut [u8], at: usize) -> usize
-    requires { Fits out.old at (bytes "\"") }
-    ensures { Wrote out.old out.new at result (bytes "\"") }
-{
-    put(out, at, b"\"")
+    let past = put(out, at, before);
+    put(out, past, given.string(i))
 }
 
 // The strings from string `begin` on, `count` of them.
-fn list(out: &mut [u8], at: usize, text: &[u8], spans: &[u32], begin: usize, count: usize) -> usize
-    requires spans_inside { SpansInside spans.now text.now count begin }
-    requires fits { Fits out.old at (list_text (strings_at text.now spans.now count begin)) }
-    ensures { Wrote out.old out.new at result (list_text (strings_at text.now spans.now count begin)) }
+fn list(out: &mut [u8], at: usize, given: &Checked, begin: usize, count: usize) -> usize
+    requires within { begin + count ≤ count_of given.now }
+    requires fits { Fits out.old at (list_text (strings_of given.now count begin)) }
+    ensures { Wrote out.old out.new at result (list_text (strings_of given.now count begin)) }
 {
     if count == 0 {
         return at;
     }
-    let mut past = first(out, at, text, spans, begin);
-    let mut i = 1;
-    while i < count {
-        past = next(out, past, text, spans, begin + i);
-        i += 1;
+    let mut past = string(out, at, b"\"", given, begin);
+    for i in 1..count {
+        past = string(out, past, b"\",\"", given, begin + i);
     }
-    last(out, past)
+    put(out, past, b"\"")
 }
 
 // The request part, which only Full has.
-fn create_request_cel_expr(
-    out: &mut [u8],
-    at: usize,
-    policy: Policy,
-    text: &[u8],
-    spans: &[u32],
-) -> usize
-    requires spans_inside { SpansInside spans.now text.now (string_count (numbers policy)) 0 }
-    requires fits { Fits out.old at (request_text (policy_of policy text.now spans.now)) }
-    ensures { Wrote out.old out.new at result (request_text (policy_of policy text.now spans.now)) }
+#[tactic(auto, using(crate::proofs::Writing::writing), unfolding(cel_policy::specs::Printed::request_text))]
+fn create_request_cel_expr(out: &mut [u8], at: usize, given: &Checked) -> usize
+    requires { Fits out.old at (request_text (policy_of given.now)) }
+    ensures { Wrote out.old out.new at result (request_text (policy_of given.now)) }
 {
-    let request = policy.request as usize;
-    let query = policy.query as usize;
+    let request = given.policy.request as usize;
+    let query = given.policy.query as usize;
     let opened = put(
         out,
         at,
         b"request_certification:RequestCertification{certified_request_headers:[",
     );
-    let headers = list(out, opened, text, spans, 0, request);
+    let headers = list(out, opened, given, 0, request);
     let between = put(out, headers, b"],certified_query_parameters:[");
-    let parameters = list(out, between, text, spans, request, query);
+    let parameters = list(out, between, given, request, query);
     put(out, parameters, b"]},")
 }
 
@@ -106,32 +70,27 @@ fn list_key(out: &mut [u8], at: usize, kind: u32) -> usize
     requires { Fits out.old at (list_key kind) }
     ensures { Wrote out.old out.new at result (list_key kind) }
 {
-    if kind == EXCLUSIONS {
-        return put(out, at, b"response_header_exclusions");
+    match kind {
+        EXCLUSIONS => put(out, at, b"response_header_exclusions"),
+        _ => put(out, at, b"certified_response_headers"),
     }
-    put(out, at, b"certified_response_headers")
 }
 
 // The response part.
-fn create_response_cel_expr(
-    out: &mut [u8],
-    at: usize,
-    policy: Policy,
-    text: &[u8],
-    spans: &[u32],
-) -> usize
-    requires spans_inside { SpansInside spans.now text.now (string_count (numbers policy)) 0 }
-    requires fits { Fits out.old at (response_text (policy_of policy text.now spans.now)) }
-    ensures { Wrote out.old out.new at result (response_text (policy_of policy text.now spans.now)) }
+#[tactic(auto, using(crate::proofs::Writing::writing), unfolding(cel_policy::specs::Printed::response_text))]
+fn create_response_cel_expr(out: &mut [u8], at: usize, given: &Checked) -> usize
+    requires { Fits out.old at (response_text (policy_of given.now)) }
+    ensures { Wrote out.old out.new at result (response_text (policy_of given.now)) }
 {
-    let begin = span::response(policy);
+    let begin = span::response(given.policy);
     let opened = put(out, at, b"response_certification:ResponseCertification{");
-    let keyed = list_key(out, opened, policy.kind);
+    let keyed = list_key(out, opened, given.policy.kind);
     let listed = put(out, keyed, b":ResponseHeaderList{headers:[");
-    let headers = list(out, listed, text, spans, begin, policy.response as usize);
+    let headers = list(out, listed, given, begin, given.policy.response as usize);
     put(out, headers, b"]}}")
 }
 
+#[tactic(auto, unfolding(cel_policy::specs::Printed::skip_text))]
 fn create_default_skip_cel_expr(out: &mut [u8]) -> usize
     requires { Fits out.old 0 skip_text }
     ensures { Wrote out.old out.new 0 result skip_text }
@@ -143,52 +102,44 @@ fn create_default_skip_cel_expr(out: &mut [u8]) -> usize
     )
 }
 
-fn create_default_response_only_cel_expr(
-    out: &mut [u8],
-    policy: Policy,
-    text: &[u8],
-    spans: &[u32],
-) -> usize
-    requires spans_inside { SpansInside spans.now text.now (string_count (numbers policy)) 0 }
-    requires fits { Fits out.old 0 (response_only_text (policy_of policy text.now spans.now)) }
-    ensures { Wrote out.old out.new 0 result (response_only_text (policy_of policy text.now spans.now)) }
+#[tactic(auto, using(crate::proofs::Writing::writing), unfolding(cel_policy::specs::Printed::response_only_text))]
+fn create_default_response_only_cel_expr(out: &mut [u8], given: &Checked) -> usize
+    requires { Fits out.old 0 (response_only_text (policy_of given.now)) }
+    ensures { Wrote out.old out.new 0 result (response_only_text (policy_of given.now)) }
 {
     let opened = put(
         out,
         0,
         b"default_certification(ValidationArgs{certification:Certification{no_request_certification:Empty{},",
     );
-    let response = create_response_cel_expr(out, opened, policy, text, spans);
+    let response = create_response_cel_expr(out, opened, given);
     put(out, response, b"}})")
 }
 
-fn create_default_full_cel_expr(out: &mut [u8], policy: Policy, text: &[u8], spans: &[u32]) -> usize
-    requires spans_inside { SpansInside spans.now text.now (string_count (numbers policy)) 0 }
-    requires fits { Fits out.old 0 (full_text (policy_of policy text.now spans.now)) }
-    ensures { Wrote out.old out.new 0 result (full_text (policy_of policy text.now spans.now)) }
+#[tactic(auto, using(crate::proofs::Writing::writing), unfolding(cel_policy::specs::Printed::full_text))]
+fn create_default_full_cel_expr(out: &mut [u8], given: &Checked) -> usize
+    requires { Fits out.old 0 (full_text (policy_of given.now)) }
+    ensures { Wrote out.old out.new 0 result (full_text (policy_of given.now)) }
 {
     let opened = put(
         out,
         0,
         b"default_certification(ValidationArgs{certification:Certification{",
     );
-    let request = create_request_cel_expr(out, opened, policy, text, spans);
-    let response = create_response_cel_expr(out, request, policy, text, spans);
+    let request = create_request_cel_expr(out, opened, given);
+    let response = create_response_cel_expr(out, request, given);
     put(out, response, b"}})")
 }
 
 // The whole text.
-pub(crate) fn create_cel_expr(out: &mut [u8], policy: Policy, text: &[u8], spans: &[u32]) -> usize
-    requires spans_inside { SpansInside spans.now text.now (string_count (numbers policy)) 0 }
-    requires fits { Fits out.old 0 (printed (policy_of policy text.now spans.now)) }
-    ensures { Wrote out.old out.new 0 result (printed (policy_of policy text.now spans.now)) }
+#[tactic(auto, using(crate::proofs::Writing::writing), unfolding(cel_policy::specs::Printed::printed))]
+pub(crate) fn create_cel_expr(out: &mut [u8], given: &Checked) -> usize
+    requires { Fits out.old 0 (printed (policy_of given.now)) }
+    ensures { Wrote out.old out.new 0 result (printed (policy_of given.now)) }
 {
-    let form = policy.form;
-    if form == SKIP {
-        return create_default_skip_cel_expr(out);
+    match given.policy.form {
+        SKIP => create_default_skip_cel_expr(out),
+        RESPONSE_ONLY => create_default_response_only_cel_expr(out, given),
+        _ => create_default_full_cel_expr(out, given),
     }
-    if form == RESPONSE_ONLY {
-        return create_default_response_only_cel_expr(out, policy, text, spans);
-    }
-    create_default_full_cel_expr(out, policy, text, spans)
 }

@@ -1,29 +1,9 @@
 -- `write::create_default_full_cel_expr` meets its contract: four pieces, one after the other. Assumes nothing.
+use Rattle.std.proofs.Common.{rules}
 use Rattle.cel_policy.specs.Printed.{full_text}
-use Rattle.pieces.specs.Laws.{wrote_then, fits-first, fits-then}
+use Rattle.pieces.specs.Laws.{wrote_then}
 use Rattle.create_cel_expr.proofs.write.create_default_full_cel_expr.Goals as goal
-
-pub put-opened-requires : goal.put-opened-requires
-unfolding full_text
-put-opened-requires c =
-    fits-first _ c.requires.fits
-
-pub create_request_cel_expr-request-requires : goal.create_request_cel_expr-request-requires
-unfolding full_text
-create_request_cel_expr-request-requires c =
-    record { spans_inside = c.requires.spans_inside; fits = fits-first _ (fits-then c.put-opened.ensures c.requires.fits) }
-
-pub create_response_cel_expr-response-requires : goal.create_response_cel_expr-response-requires
-unfolding full_text
-create_response_cel_expr-response-requires c =
-    record { spans_inside = c.requires.spans_inside; fits = fits-first _ (fits-then c.create_request_cel_expr-request.ensures (fits-then c.put-opened.ensures c.requires.fits)) }
-
-pub put-requires : goal.put-requires
-unfolding full_text
-put-requires c =
-    fits-then c.create_response_cel_expr-response.ensures (fits-then c.create_request_cel_expr-request.ensures (fits-then c.put-opened.ensures c.requires.fits))
 
 pub returns : goal.returns
 unfolding full_text
-returns c =
-    wrote_then c.put-opened.ensures (wrote_then c.create_request_cel_expr-request.ensures (wrote_then c.create_response_cel_expr-response.ensures c.put.ensures))
+returns c = search (rules, wrote_then)

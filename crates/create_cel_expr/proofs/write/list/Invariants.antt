@@ -1,11 +1,7 @@
 -- `write::list` meets its contract: at each turn whatever writes the rest of the list from here on has written all of it. Assumes nothing.
-use Rattle.std.proofs.Common.{◌-◌, ◌≤◌}
 use Rattle.pieces.specs.Pieces.{Fits}
 use Rattle.create_cel_expr.proofs.Lists.{Going, rest_of}
 use Rattle.create_cel_expr.proofs.write.list.Given as goal
 
 abbrev pub invariant-loop-i : goal.invariant-loop-i
-invariant-loop-i l = (1 ≤ l.i) × Fits l.out l.past (rest_of l.text l.spans l.begin l.count l.i) × Going l.text l.spans l.begin l.count l.initial.out l.initial.past l.out l.past l.i
-
-abbrev pub decreases-loop-i : goal.decreases-loop-i
-decreases-loop-i l = l.count - l.i
+invariant-loop-i l = Fits l.out l.past (rest_of l.given l.begin l.count l.i) × Going l.given l.begin l.count l.initial.out l.initial.past l.out l.past l.i
