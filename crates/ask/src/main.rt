@@ -4,84 +4,47 @@
 
 mod answers;
 mod entry;
-mod every;
+mod fields;
 mod help;
 mod prints;
+mod reply;
 mod reports;
 mod request;
 mod room;
-mod table;
 mod verdicts;
-mod write;
 
-use std::env::Env;
+use program::Console;
+use reply::Reply;
 use std::io::Read;
 
-// Nothing says that the input ends, so the turns are counted down from a number that no run uses up.
-fn serve<R: Read>(
-    reader: &mut R,
-    output: &impl Print,
-    errors: &impl Print,
-    input: &mut [u8],
-    out: &mut [u8],
-) {
-    let mut line = lines::none();
-    let mut turns = u64::MAX;
-    while turns > 0 {
-        line = lines::next(reader, input, line);
-        if !line.found {
+// Nothing says that the input ends, so the turns are counted up to a number that no run reaches.
+fn serve<R: Read, O: Print, E: Print>(reader: &mut R, console: &Console<'_, O, E>) {
+    let mut input = [0u8; room::LINE];
+    let mut reply = Reply::new();
+    let mut last = lines::none();
+    for _ in 0..u64::MAX {
+        last = lines::next(reader, &mut input, last);
+        let Some(line) = last else {
+            return;
+        };
+        request::answer_line(&input, line, &mut reply);
+        if !console.say(reply.text()) {
             return;
         }
-        let n = request::answer_line(input, line, out);
-        if !say(output, errors, &out[..n]) {
-            return;
-        }
-        turns -= 1;
     }
-}
-
-// Writes to standard output; where that fails, says so and answers false.
-fn say(output: &impl Print, errors: &impl Print, text: &[u8]) -> bool {
-    match output.write_all(text) {
-        Ok(()) => true,
-        Err(error) => {
-            program::fail(errors, b"ask: cannot write", &error);
-            false
-        }
-    }
-}
-
-fn serve_input<R: Read>(reader: &mut R, output: &impl Print, errors: &impl Print) {
-    let mut input = [0u8; 65536];
-    let mut out = [0u8; 65536];
-    serve(reader, output, errors, &mut input, &mut out);
-}
-
-fn misused(errors: &impl Print) {
-    let _ = errors.write_all(
-        b"ask: takes no argument but --help, and requests on standard input\n",
-    );
-}
-
-fn answer_argument(rt: &impl Env, output: &impl Print, errors: &impl Print) {
-    let mut argument = [0u8; 4096];
-    let Ok(n) = rt.arg(1, &mut argument) else {
-        misused(errors);
-        return;
-    };
-    if argument[..n] == b"--help"[..] {
-        help::put_help(output, errors);
-        return;
-    }
-    misused(errors);
 }
 
 fn main(rt: HostRuntime) {
-    let output = rt.stdout();
-    let errors = rt.stderr();
+    let console = Console {
+        output: &rt.stdout(),
+        errors: &rt.stderr(),
+        unwritten: b"ask: cannot write",
+        help: help::HELP,
+        misuse: b"ask: takes no argument but --help, and requests on standard input\n",
+    };
     match program::arg_count(&rt) {
-        1 => serve_input(&mut rt.stdin(), &output, &errors),
-        2 => answer_argument(&rt, &output, &errors),
-        _ => misused(&errors),
+        1 => serve(&mut rt.stdin(), &console),
+        2 => console.answer_argument(&rt),
+        _ => console.misused(),
     }
 }

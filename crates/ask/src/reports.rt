@@ -1,18 +1,12 @@
 // `reports`: the whole report on a text, and a blank line.
-ghost use Rattle.std.specs.Prelude.{◌≤◌, length};
+use crate::reply::Reply;
+use crate::room;
 
-use crate::{room, write};
-use lines::Count;
-
-// The answer to a text in hex; its length.
-pub(crate) fn answer(field: &[u8], out: &mut [u8]) -> usize
-    ensures { result ≤ length out.new }
-{
+// The answer to a text in hex.
+pub(crate) fn answer(field: &[u8], out: &mut Reply) -> Option<()> {
     let mut text = room::bytes();
-    let count = lines::unhex(field, &mut text);
-    let Count::Number(n) = count else {
-        return write::put_bad(out);
-    };
-    let end = report::report(&text[..n], out);
-    write::put(out, end, b"\n")
+    let n = lines::unhex(field, &mut text)?;
+    out.put_report(&text[..n]);
+    out.put(b"\n");
+    Some(())
 }

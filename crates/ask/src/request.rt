@@ -1,51 +1,30 @@
 // A line, taken for a request and answered.
-ghost use Rattle.std.specs.Prelude.{◌≤◌, length};
+ghost use Rattle.std.specs.Prelude.{length};
 ghost use Rattle.lines.specs.Input.{Inside};
 
-use crate::write::put_bad;
+use crate::reply::Reply;
 use crate::{answers, prints, reports, verdicts};
 use lines::Line;
 
-// The answer to the fields of a request.
-fn answer_verb(verb: &[u8], fields: &[u8], out: &mut [u8]) -> usize
-    ensures { result ≤ length out.new }
-{
-    if verb == b"answers".as_slice() {
-        return answers::answer(fields, out);
+// The answer to a request; none to what is no request, of which nothing is written. A verb alone has no field, and each verb has one at least.
+fn answered(line: &[u8], out: &mut Reply) -> Option<()> {
+    let end = line.iter().position(|b| *b == b'\t')?;
+    let fields = &line[end + 1..];
+    match &line[..end] {
+        b"answers" => answers::answer(fields, out),
+        b"prints" => prints::answer(fields, out),
+        b"verdicts" => verdicts::answer(fields, out),
+        b"reports" => reports::answer(fields, out),
+        _ => None,
     }
-    if verb == b"prints".as_slice() {
-        return prints::answer(fields, out);
-    }
-    if verb == b"verdicts".as_slice() {
-        return verdicts::answer(fields, out);
-    }
-    if verb == b"reports".as_slice() {
-        return reports::answer(fields, out);
-    }
-    put_bad(out)
 }
 
-// The answer to a line; its length. A verb alone has no field, and each verb has one at least.
-fn answer(line: &[u8], out: &mut [u8]) -> usize
-    ensures { result ≤ length out.new }
-{
-    let end = lines::find(line, 0, line.len(), b'\t');
-    if end == line.len() {
-        return put_bad(out);
-    }
-    let from = end + 1;
-    answer_verb(&line[..end], &line[from..], out)
-}
-
-// The answer to a line of the input. One that is cut is no request.
-pub(crate) fn answer_line(input: &[u8], line: Line, out: &mut [u8]) -> usize
+// Puts the answer to a line of the input in the place of the last one. A line that is cut is no request.
+pub(crate) fn answer_line(input: &[u8], line: Line, out: &mut Reply)
     requires { Inside line (length input.now) }
-    ensures { result ≤ length out.new }
 {
-    if line.cut {
-        return put_bad(out);
+    out.clear();
+    if line.cut || answered(&input[line.from..line.to], out).is_none() {
+        out.put(b"bad line\n");
     }
-    let from = line.from;
-    let to = line.to;
-    answer(&input[from..to], out)
 }

@@ -1,217 +1,131 @@
 // `verdicts`: the line that the judge, the original Rust, writes for a text; and `limit` with the refusal's number where a limit
-// puts the text outside what the two are compared on. Words of one sort stand in a line, in the order of their numbers in SPEC.md.
-ghost use Rattle.std.specs.Prelude.{◌≤◌, length};
-
+// puts the text outside what the two are compared on.
+use crate::reply::Reply;
 use crate::room;
-use crate::write::{put, put_bad, put_number};
 use ast_mapping::SPAN_WORDS;
 use cel_policy::Policy;
-use lines::Count;
-use parser::{ACCEPTED, MAX_TEXT, NODE_WORDS};
+use parser::{ACCEPTED, Answer, MAX_TEXT, NODE_WORDS};
 
-// The word with this number in a line of words, which bars separate and which are counted from 0; nothing where there is none.
-fn put_word(out: &mut [u8], at: usize, line: &[u8], number: u32) -> usize
-    requires { at ≤ length out.old }
-    ensures { result ≤ length out.new }
-{
-    let from = lines::part_start(line, number, b'|');
-    let to = lines::find(line, from, line.len(), b'|');
-    put_part(out, at, line, from, to)
+// The judge's name for a refusal, which limits do not have.
+fn error(refusal: u32) -> Option<&'static [u8]> {
+    Some(match refusal {
+        parser::SYNTAX => b"CelSyntaxException",
+        parser::UNEXPECTED_NODE_TYPE => b"UnexpectedNodeType",
+        parser::UNEXPECTED_NODE_NAME => b"UnexpectedNodeName",
+        parser::MISSING_FUNCTION_PARAMETER => b"MissingFunctionParameter",
+        parser::MISSING_OBJECT_PROPERTY => b"MissingObjectProperty",
+        parser::EXTRANEOUS_VALIDATION_ARGS_PROPERTY => b"ExtraneousValidationArgsProperty",
+        parser::MISSING_VALIDATION_ARGS_PROPERTY => b"MissingValidationArgsProperty",
+        parser::EXTRANEOUS_REQUEST_CERTIFICATION_PROPERTY =>
+            b"ExtraneousRequestCertificationProperty",
+        parser::MISSING_REQUEST_CERTIFICATION_PROPERTY => b"MissingRequestCertificationProperty",
+        parser::EXTRANEOUS_RESPONSE_CERTIFICATION_PROPERTY =>
+            b"ExtraneousResponseCertificationProperty",
+        parser::MISSING_RESPONSE_CERTIFICATION_PROPERTY => b"MissingResponseCertificationProperty",
+        _ => return None,
+    })
 }
 
-// A tab and the name; nothing where there is none.
-fn put_name(out: &mut [u8], at: usize, name: u32) -> usize
-    requires { at ≤ length out.old }
-    ensures { result ≤ length out.new }
-{
-    let begin = put(out, at, b"\t");
-    let end = ast_mapping::name::spell(out, begin, name);
-    if end == begin {
-        return at;
+// What a node is, after a tab; nothing where it has no kind.
+fn kind(kind: u32) -> &'static [u8] {
+    match kind {
+        parser::STRING => b"\tString",
+        parser::ARRAY => b"\tArray",
+        parser::OBJECT => b"\tObject",
+        parser::FUNCTION => b"\tFunction",
+        _ => b"",
     }
-    end
 }
 
-fn put_kind(out: &mut [u8], at: usize, kind: u32) -> usize
-    requires { at ≤ length out.old }
-    ensures { result ≤ length out.new }
-{
-    put_word(out, at, b"|\tString|\tArray|\tObject|\tFunction", kind)
-}
-
-// A refusal: the judge's name for it, which limits do not have.
-fn put_error(out: &mut [u8], refusal: u32) -> usize
-    ensures { result ≤ length out.new }
-{
-    let errors =
-        b"||||CelSyntaxException|||UnexpectedNodeType|UnexpectedNodeName|MissingFunctionParameter|MissingObjectProperty\
-        |ExtraneousValidationArgsProperty|MissingValidationArgsProperty|ExtraneousRequestCertificationProperty\
-        |MissingRequestCertificationProperty|ExtraneousResponseCertificationProperty|MissingResponseCertificationProperty";
-    let end = put_word(out, 0, errors, refusal);
-    if end == 0 {
-        return put_limit(out, refusal);
+fn form(form: u32) -> &'static [u8] {
+    match form {
+        cel_policy::SKIP => b"\tSkip",
+        cel_policy::RESPONSE_ONLY => b"\tResponseOnly",
+        cel_policy::FULL => b"\tFull",
+        _ => b"",
     }
-    end
 }
 
-fn put_limit(out: &mut [u8], refusal: u32) -> usize
-    ensures { result ≤ length out.new }
-{
-    let end = put(out, 0, b"limit\t");
-    put_number(out, end, refusal)
-}
-
-fn put_form(out: &mut [u8], at: usize, form: u32) -> usize
-    requires { at ≤ length out.old }
-    ensures { result ≤ length out.new }
-{
-    put_word(out, at, b"|\tSkip|\tResponseOnly|\tFull", form)
-}
-
-fn put_list_kind(out: &mut [u8], at: usize, kind: u32) -> usize
-    requires { at ≤ length out.old }
-    ensures { result ≤ length out.new }
-{
-    put_word(out, at, b"\tnone|\tinclusions|\texclusions", kind)
-}
-
-// The bytes from `from` up to `to` of the text, as far as it has them.
-fn put_part(out: &mut [u8], at: usize, text: &[u8], from: usize, to: usize) -> usize
-    requires { at ≤ length out.old }
-    ensures { result ≤ length out.new }
-{
-    if text.len() < to {
-        return at;
+fn list_kind(kind: u32) -> &'static [u8] {
+    match kind {
+        0 => b"\tnone",
+        cel_policy::INCLUSIONS => b"\tinclusions",
+        cel_policy::EXCLUSIONS => b"\texclusions",
+        _ => b"",
     }
-    if to < from {
-        return at;
+}
+
+fn put_limit(out: &mut Reply, refusal: u32) {
+    out.put(b"limit\t");
+    out.put_number(refusal);
+}
+
+fn put_refused(out: &mut Reply, answer: Answer) {
+    match error(answer.refusal) {
+        Some(name) => out.put(name),
+        None => put_limit(out, answer.refusal),
     }
-    put(out, at, &text[from..to])
+    out.put_name(answer.name);
+    out.put(kind(answer.kind));
 }
 
-// A string in double quotes.
-fn put_string(out: &mut [u8], at: usize, text: &[u8], from: usize, to: usize) -> usize
-    requires { at ≤ length out.old }
-    ensures { result ≤ length out.new }
-{
-    let begin = put(out, at, b"\"");
-    let end = put_part(out, begin, text, from, to);
-    put(out, end, b"\"")
-}
-
-// The comma between the strings of a list.
-fn put_comma(out: &mut [u8], at: usize, first: bool) -> usize
-    requires { at ≤ length out.old }
-    ensures { result ≤ length out.new }
-{
-    if first {
-        return at;
-    }
-    put(out, at, b",")
-}
-
-// A field with the strings from string `first` up to string `last` of the span table.
-fn put_strings(
-    out: &mut [u8],
-    at: usize,
-    text: &[u8],
-    spans: &[u32],
-    first: usize,
-    last: usize,
-) -> usize
-    requires { at ≤ length out.old }
-    ensures { result ≤ length out.new }
-{
-    let mut end = put(out, at, b"\t");
-    let mut i = first;
-    while i < last {
-        if spans.len() / 2 <= i {
-            return end;
+// A field with the strings from string `first` up to string `last` of the span table, each in double quotes.
+fn put_strings(out: &mut Reply, text: &[u8], spans: &[[u32; 2]], first: usize, last: usize) {
+    out.put(b"\t");
+    for (i, [from, to]) in spans.iter().take(last).skip(first).enumerate() {
+        if i > 0 {
+            out.put(b",");
         }
-        let from = spans[2 * i];
-        let to = spans[2 * i + 1];
-        end = put_comma(out, end, i == first);
-        end = put_string(out, end, text, from as usize, to as usize);
-        i += 1;
+        out.put(b"\"");
+        out.put(text.get(*from as usize..*to as usize).unwrap_or_default());
+        out.put(b"\"");
     }
-    end
 }
 
-// The three lists, one after the other in the span table.
-fn put_lists(out: &mut [u8], at: usize, policy: Policy, text: &[u8], spans: &[u32]) -> usize
-    requires { at ≤ length out.old }
-    ensures { result ≤ length out.new }
-{
+// An accepted text: its policy, whose three lists stand one after the other in the span table, and the text that printing gives.
+fn put_policy(out: &mut Reply, policy: Policy, text: &[u8], spans: &[u32], printed: &[u8]) {
+    let (spans, _) = spans.as_chunks::<2>();
     let request = policy.request as usize;
     let query = request + policy.query as usize;
     let response = query + policy.response as usize;
-    let end = put_strings(out, at, text, spans, 0, request);
-    let end = put_strings(out, end, text, spans, request, query);
-    put_strings(out, end, text, spans, query, response)
+    out.put(b"ok");
+    out.put(form(policy.form));
+    out.put(list_kind(policy.kind));
+    put_strings(out, text, spans, 0, request);
+    put_strings(out, text, spans, request, query);
+    put_strings(out, text, spans, query, response);
+    out.put(b"\t");
+    out.put(printed);
 }
 
-// An accepted text: its policy, and the text that printing gives, of which there are `size` bytes.
-fn put_policy(
-    out: &mut [u8],
-    policy: Policy,
-    text: &[u8],
-    spans: &[u32],
-    printed: &[u8],
-    size: usize,
-) -> usize
-    ensures { result ≤ length out.new }
-{
-    let end = put(out, 0, b"ok");
-    let end = put_form(out, end, policy.form);
-    let end = put_list_kind(out, end, policy.kind);
-    let end = put_lists(out, end, policy, text, spans);
-    let end = put(out, end, b"\t");
-    put_part(out, end, printed, 0, size)
-}
-
-fn put_refused(out: &mut [u8], refusal: u32, name: u32, kind: u32) -> usize
-    ensures { result ≤ length out.new }
-{
-    let end = put_error(out, refusal);
-    let end = put_name(out, end, name);
-    put_kind(out, end, kind)
+fn put_accepted(out: &mut Reply, policy: Policy, text: &[u8], spans: &[u32]) {
+    let mut printed = [0u8; MAX_TEXT];
+    let print = create_cel_expr::print_policy(policy, text, spans, &mut printed);
+    if print.refusal == ACCEPTED {
+        let printed = printed.get(..print.length as usize).unwrap_or_default();
+        put_policy(out, policy, text, spans, printed);
+    } else {
+        put_limit(out, print.refusal);
+    }
 }
 
 // The judge's line for a text, without its line end.
-fn put_verdict(text: &[u8], out: &mut [u8]) -> usize
-    ensures { result ≤ length out.new }
-{
+fn put_verdict(text: &[u8], out: &mut Reply) {
     let mut nodes = [0u32; NODE_WORDS];
     let mut spans = [0u32; SPAN_WORDS];
     let read = ast_mapping::read_policy(text, &mut nodes, &mut spans);
-    let answer = read.answer;
-    if answer.refusal != ACCEPTED {
-        return put_refused(out, answer.refusal, answer.name, answer.kind);
+    if read.answer.refusal == ACCEPTED {
+        put_accepted(out, read.policy, text, &spans);
+    } else {
+        put_refused(out, read.answer);
     }
-    let policy = read.policy;
-    put_accepted(out, policy, text, &spans)
 }
 
-fn put_accepted(out: &mut [u8], policy: Policy, text: &[u8], spans: &[u32]) -> usize
-    ensures { result ≤ length out.new }
-{
-    let mut printed = [0u8; MAX_TEXT];
-    let print = create_cel_expr::print_policy(policy, text, spans, &mut printed);
-    if print.refusal != ACCEPTED {
-        return put_limit(out, print.refusal);
-    }
-    put_policy(out, policy, text, spans, &printed, print.length as usize)
-}
-
-// The answer to a text in hex; its length.
-pub(crate) fn answer(field: &[u8], out: &mut [u8]) -> usize
-    ensures { result ≤ length out.new }
-{
+// The answer to a text in hex.
+pub(crate) fn answer(field: &[u8], out: &mut Reply) -> Option<()> {
     let mut text = room::bytes();
-    let count = lines::unhex(field, &mut text);
-    let Count::Number(n) = count else {
-        return put_bad(out);
-    };
-    let end = put_verdict(&text[..n], out);
-    put(out, end, b"\n")
+    let n = lines::unhex(field, &mut text)?;
+    put_verdict(&text[..n], out);
+    out.put(b"\n");
+    Some(())
 }

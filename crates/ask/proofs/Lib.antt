@@ -1,2 +1,0 @@
--- Lemmas on what the contracts cite.
-mod Words
