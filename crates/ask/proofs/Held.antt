@@ -1,4 +1,4 @@
--- What an output holds after a piece. Assumes nothing.
+-- What a reply holds after a piece. Assumes nothing.
 use Rattle.std.specs.Prelude.{◌≡◌, ℕ, ◌+◌, ◌-◌, ◌≤◌, List, [], ◌++◌, length, take, drop}
 use Rattle.std.proofs.Common.{sym, ap, ◌∙◌, arith, length-append, length-take-le, take_all, append-nil, drop_of_length-le}
 use Rattle.std.proofs.Math.Decide.{dec_le}

@@ -4,31 +4,31 @@
 
 mod answers;
 mod entry;
+mod fields;
 mod help;
-mod output;
 mod prints;
+mod reply;
 mod reports;
 mod request;
 mod room;
-mod table;
 mod verdicts;
 
-use output::Output;
 use program::Console;
+use reply::Reply;
 use std::io::Read;
 
-// A request and its answer, one after the other, until the input ends or an answer cannot be written.
+// Nothing says that the input ends, so the turns are counted up to a number that no run reaches.
 fn serve<R: Read, O: Print, E: Print>(reader: &mut R, console: &Console<'_, O, E>) {
-    let mut input = [0u8; 65536];
-    let mut out = Output::new();
+    let mut input = [0u8; room::LINE];
+    let mut reply = Reply::new();
     let mut last = lines::none();
     for _ in 0..u64::MAX {
         last = lines::next(reader, &mut input, last);
         let Some(line) = last else {
             return;
         };
-        request::answer_line(&mut out, &input, line);
-        if !console.say(out.bytes()) {
+        request::answer_line(&input, line, &mut reply);
+        if !console.say(reply.text()) {
             return;
         }
     }

@@ -1,12 +1,12 @@
 // `reports`: the whole report on a text, and a blank line.
-use crate::output::Output;
-use crate::room::LENT_BYTES;
+use crate::reply::Reply;
+use crate::room;
 
 // The answer to a text in hex.
-pub(crate) fn answer(out: &mut Output, field: &[u8]) -> Option<()> {
-    let mut text = LENT_BYTES;
+pub(crate) fn answer(field: &[u8], out: &mut Reply) -> Option<()> {
+    let mut text = room::bytes();
     let n = lines::unhex(field, &mut text)?;
-    out.report(&text[..n]);
+    out.put_report(&text[..n]);
     out.put(b"\n");
     Some(())
 }

@@ -2,39 +2,29 @@
 ghost use Rattle.std.specs.Prelude.{length};
 ghost use Rattle.lines.specs.Input.{Inside};
 
-use crate::output::Output;
+use crate::reply::Reply;
 use crate::{answers, prints, reports, verdicts};
 use lines::Line;
 
-// The answer to the fields of a request, where they are its verb's.
-fn answer_verb(out: &mut Output, verb: &[u8], fields: &[u8]) -> Option<()> {
-    match verb {
-        b"answers" => answers::answer(out, fields),
-        b"prints" => prints::answer(out, fields),
-        b"verdicts" => verdicts::answer(out, fields),
-        b"reports" => reports::answer(out, fields),
+// The answer to a request; none to what is no request, of which nothing is written. A verb alone has no field, and each verb has one at least.
+fn answered(line: &[u8], out: &mut Reply) -> Option<()> {
+    let end = line.iter().position(|b| *b == b'\t')?;
+    let fields = &line[end + 1..];
+    match &line[..end] {
+        b"answers" => answers::answer(fields, out),
+        b"prints" => prints::answer(fields, out),
+        b"verdicts" => verdicts::answer(fields, out),
+        b"reports" => reports::answer(fields, out),
         _ => None,
     }
 }
 
-// The answer to a line, where it is a request. A verb alone has no field, and each verb has one at least.
-fn answer_request(out: &mut Output, line: &[u8]) -> Option<()> {
-    let end = lines::find(line, 0, line.len(), b'\t');
-    let fields = line.get(end + 1..)?;
-    answer_verb(out, &line[..end], fields)
-}
-
-// The answer to a line of the input. One that is cut is no request.
-pub(crate) fn answer_line(out: &mut Output, input: &[u8], line: Line)
+// Puts the answer to a line of the input in the place of the last one. A line that is cut is no request.
+pub(crate) fn answer_line(input: &[u8], line: Line, out: &mut Reply)
     requires { Inside line (length input.now) }
 {
     out.clear();
-    let answered = if line.cut {
-        None
-    } else {
-        answer_request(out, &input[line.from..line.to])
-    };
-    if answered.is_none() {
+    if line.cut || answered(&input[line.from..line.to], out).is_none() {
         out.put(b"bad line\n");
     }
 }

@@ -1,147 +1,134 @@
 // `verdicts`: the line that the judge, the original Rust, writes for a text; and `limit` with the refusal's number where a limit
 // puts the text outside what the two are compared on.
-use crate::output::Output;
-use crate::room::LENT_BYTES;
+use crate::reply::Reply;
+use crate::room;
 use ast_mapping::SPAN_WORDS;
-use cel_policy::{EXCLUSIONS, FULL, INCLUSIONS, Policy, RESPONSE_ONLY, SKIP};
-use parser::{
-    ACCEPTED, ARRAY, Answer, EXTRANEOUS_REQUEST_CERTIFICATION_PROPERTY,
-    EXTRANEOUS_RESPONSE_CERTIFICATION_PROPERTY, EXTRANEOUS_VALIDATION_ARGS_PROPERTY, FUNCTION,
-    MAX_TEXT, MISSING_FUNCTION_PARAMETER, MISSING_OBJECT_PROPERTY,
-    MISSING_REQUEST_CERTIFICATION_PROPERTY, MISSING_RESPONSE_CERTIFICATION_PROPERTY,
-    MISSING_VALIDATION_ARGS_PROPERTY, NODE_WORDS, OBJECT, STRING, SYNTAX, UNEXPECTED_NODE_NAME,
-    UNEXPECTED_NODE_TYPE,
-};
+use cel_policy::Policy;
+use parser::{ACCEPTED, Answer, MAX_TEXT, NODE_WORDS};
 
 // The judge's name for a refusal, which limits do not have.
-fn error_of(refusal: u32) -> Option<&'static str> {
-    match refusal {
-        SYNTAX => Some("CelSyntaxException"),
-        UNEXPECTED_NODE_TYPE => Some("UnexpectedNodeType"),
-        UNEXPECTED_NODE_NAME => Some("UnexpectedNodeName"),
-        MISSING_FUNCTION_PARAMETER => Some("MissingFunctionParameter"),
-        MISSING_OBJECT_PROPERTY => Some("MissingObjectProperty"),
-        EXTRANEOUS_VALIDATION_ARGS_PROPERTY => Some("ExtraneousValidationArgsProperty"),
-        MISSING_VALIDATION_ARGS_PROPERTY => Some("MissingValidationArgsProperty"),
-        EXTRANEOUS_REQUEST_CERTIFICATION_PROPERTY => Some("ExtraneousRequestCertificationProperty"),
-        MISSING_REQUEST_CERTIFICATION_PROPERTY => Some("MissingRequestCertificationProperty"),
-        EXTRANEOUS_RESPONSE_CERTIFICATION_PROPERTY => {
-            Some("ExtraneousResponseCertificationProperty")
-        }
-        MISSING_RESPONSE_CERTIFICATION_PROPERTY => Some("MissingResponseCertificationProperty"),
-        _ => None,
-    }
+fn error(refusal: u32) -> Option<&'static [u8]> {
+    Some(match refusal {
+        parser::SYNTAX => b"CelSyntaxException",
+        parser::UNEXPECTED_NODE_TYPE => b"UnexpectedNodeType",
+        parser::UNEXPECTED_NODE_NAME => b"UnexpectedNodeName",
+        parser::MISSING_FUNCTION_PARAMETER => b"MissingFunctionParameter",
+        parser::MISSING_OBJECT_PROPERTY => b"MissingObjectProperty",
+        parser::EXTRANEOUS_VALIDATION_ARGS_PROPERTY => b"ExtraneousValidationArgsProperty",
+        parser::MISSING_VALIDATION_ARGS_PROPERTY => b"MissingValidationArgsProperty",
+        parser::EXTRANEOUS_REQUEST_CERTIFICATION_PROPERTY =>
+            b"ExtraneousRequestCertificationProperty",
+        parser::MISSING_REQUEST_CERTIFICATION_PROPERTY => b"MissingRequestCertificationProperty",
+        parser::EXTRANEOUS_RESPONSE_CERTIFICATION_PROPERTY =>
+            b"ExtraneousResponseCertificationProperty",
+        parser::MISSING_RESPONSE_CERTIFICATION_PROPERTY => b"MissingResponseCertificationProperty",
+        _ => return None,
+    })
 }
 
-// The field of a kind; nothing where there is none.
-fn kind_field(kind: u32) -> &'static str {
+// What a node is, after a tab; nothing where it has no kind.
+fn kind(kind: u32) -> &'static [u8] {
     match kind {
-        STRING => "\tString",
-        ARRAY => "\tArray",
-        OBJECT => "\tObject",
-        FUNCTION => "\tFunction",
-        _ => "",
+        parser::STRING => b"\tString",
+        parser::ARRAY => b"\tArray",
+        parser::OBJECT => b"\tObject",
+        parser::FUNCTION => b"\tFunction",
+        _ => b"",
     }
 }
 
-fn form_field(form: u32) -> &'static str {
+fn form(form: u32) -> &'static [u8] {
     match form {
-        SKIP => "\tSkip",
-        RESPONSE_ONLY => "\tResponseOnly",
-        FULL => "\tFull",
-        _ => "",
+        cel_policy::SKIP => b"\tSkip",
+        cel_policy::RESPONSE_ONLY => b"\tResponseOnly",
+        cel_policy::FULL => b"\tFull",
+        _ => b"",
     }
 }
 
-fn list_kind_field(kind: u32) -> &'static str {
+fn list_kind(kind: u32) -> &'static [u8] {
     match kind {
-        0 => "\tnone",
-        INCLUSIONS => "\tinclusions",
-        EXCLUSIONS => "\texclusions",
-        _ => "",
+        0 => b"\tnone",
+        cel_policy::INCLUSIONS => b"\tinclusions",
+        cel_policy::EXCLUSIONS => b"\texclusions",
+        _ => b"",
     }
 }
 
-fn put_limit(out: &mut Output, refusal: u32) {
+fn put_limit(out: &mut Reply, refusal: u32) {
     out.put(b"limit\t");
-    out.number(refusal);
+    out.put_number(refusal);
 }
 
-// A refusal: its name, the name that it is about and the kind, or the limit.
-fn put_refused(out: &mut Output, answer: Answer) {
-    let Some(error) = error_of(answer.refusal) else {
-        put_limit(out, answer.refusal);
-        return;
-    };
-    out.put(error.as_bytes());
+fn put_refused(out: &mut Reply, answer: Answer) {
+    match error(answer.refusal) {
+        Some(name) => out.put(name),
+        None => put_limit(out, answer.refusal),
+    }
     if answer.name != 0 {
         out.put(b"\t");
-        out.name(answer.name);
+        out.put_name(answer.name);
     }
-    out.put(kind_field(answer.kind).as_bytes());
+    out.put(kind(answer.kind));
 }
 
-// A field with so many strings of the span table, from string `first` on.
-fn put_strings(out: &mut Output, text: &[u8], spans: &[u32], first: usize, count: usize) {
+// A field with the strings from string `first` up to string `last` of the span table, each in double quotes.
+fn put_strings(out: &mut Reply, text: &[u8], spans: &[[u32; 2]], first: usize, last: usize) {
     out.put(b"\t");
-    for (i, span) in spans.chunks_exact(2).skip(first).take(count).enumerate() {
-        if i != 0 {
+    for (i, [from, to]) in spans.iter().take(last).skip(first).enumerate() {
+        if i > 0 {
             out.put(b",");
         }
-        let [from, to] = span else {
-            return;
-        };
-        let string = text.get(*from as usize..*to as usize);
         out.put(b"\"");
-        out.put(string.unwrap_or(b""));
+        out.put(text.get(*from as usize..*to as usize).unwrap_or_default());
         out.put(b"\"");
     }
 }
 
-// The three lists, one after the other in the span table.
-fn put_lists(out: &mut Output, policy: Policy, text: &[u8], spans: &[u32]) {
+// An accepted text: its policy, whose three lists stand one after the other in the span table, and the text that printing gives.
+fn put_policy(out: &mut Reply, policy: Policy, text: &[u8], spans: &[u32], printed: &[u8]) {
+    let (spans, _) = spans.as_chunks::<2>();
     let request = policy.request as usize;
-    let query = policy.query as usize;
-    let response = policy.response as usize;
+    let query = request + policy.query as usize;
+    let response = query + policy.response as usize;
+    out.put(b"ok");
+    out.put(form(policy.form));
+    out.put(list_kind(policy.kind));
     put_strings(out, text, spans, 0, request);
     put_strings(out, text, spans, request, query);
-    put_strings(out, text, spans, request + query, response);
+    put_strings(out, text, spans, query, response);
+    out.put(b"\t");
+    out.put(printed);
 }
 
-// An accepted text: its policy, and the text that printing gives.
-fn put_accepted(out: &mut Output, policy: Policy, text: &[u8], spans: &[u32]) {
+fn put_accepted(out: &mut Reply, policy: Policy, text: &[u8], spans: &[u32]) {
     let mut printed = [0u8; MAX_TEXT];
     let print = create_cel_expr::print_policy(policy, text, spans, &mut printed);
-    if print.refusal != ACCEPTED {
+    if print.refusal == ACCEPTED {
+        let printed = printed.get(..print.length as usize).unwrap_or_default();
+        put_policy(out, policy, text, spans, printed);
+    } else {
         put_limit(out, print.refusal);
-        return;
     }
-    out.put(b"ok");
-    out.put(form_field(policy.form).as_bytes());
-    out.put(list_kind_field(policy.kind).as_bytes());
-    put_lists(out, policy, text, spans);
-    out.put(b"\t");
-    let size = print.length as usize;
-    out.put(printed.get(..size).unwrap_or(b""));
 }
 
 // The judge's line for a text, without its line end.
-fn put_verdict(out: &mut Output, text: &[u8]) {
-    let mut nodes = [0; NODE_WORDS];
-    let mut spans = [0; SPAN_WORDS];
+fn put_verdict(text: &[u8], out: &mut Reply) {
+    let mut nodes = [0u32; NODE_WORDS];
+    let mut spans = [0u32; SPAN_WORDS];
     let read = ast_mapping::read_policy(text, &mut nodes, &mut spans);
-    if read.answer.refusal != ACCEPTED {
+    if read.answer.refusal == ACCEPTED {
+        put_accepted(out, read.policy, text, &spans);
+    } else {
         put_refused(out, read.answer);
-        return;
     }
-    put_accepted(out, read.policy, text, &spans);
 }
 
 // The answer to a text in hex.
-pub(crate) fn answer(out: &mut Output, field: &[u8]) -> Option<()> {
-    let mut text = LENT_BYTES;
+pub(crate) fn answer(field: &[u8], out: &mut Reply) -> Option<()> {
+    let mut text = room::bytes();
     let n = lines::unhex(field, &mut text)?;
-    put_verdict(out, &text[..n]);
+    put_verdict(&text[..n], out);
     out.put(b"\n");
     Some(())
 }

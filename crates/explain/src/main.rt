@@ -4,11 +4,12 @@
 
 mod input;
 
-ghost use Rattle.std.specs.Prelude.{◌++◌};
+ghost use Rattle.std.specs.Prelude.{◌++◌, ◌≤◌, length, IfOk};
 ghost use Rattle.cel_text.specs.Byte.{bytes};
 ghost use Rattle.pieces.specs.Pieces.{Wrote};
 ghost use Rattle.page.specs.Page.{shown, said};
 
+use program::{Console, fail};
 use std::env::{Env, FillError};
 use std::io::Read;
 use std::rt::Files;
@@ -21,24 +22,11 @@ const NOT_THERE: i32 = 22;
 
 const NO_TEXT: i32 = 84;
 
-fn put_help(output: &impl Print) {
-    let _ = output.write_all(
-        b"Usage: explain [FILE]\n\
-          \n\
-          Explains the certification expression in the file, or on standard input: the policy that it\n\
-          stands for, or why and where it is refused. What follows the expression only has to be ASCII.\n\
-          Bytes and nodes are counted from 0, lines and columns from 1.\n",
-    );
-}
-
-// Writes the report on a text.
-fn show(output: &impl Print, errors: &impl Print, text: &[u8]) {
-    let mut out = [0u8; 65536];
-    let n = report::report(text, &mut out);
-    if let Err(error) = output.write_all(&out[..n]) {
-        program::fail(errors, b"explain: cannot write", &error);
-    }
-}
+const HELP: &[u8] = b"Usage: explain [FILE]\n\
+    \n\
+    Explains the certification expression in the file, or on standard input: the policy that it\n\
+    stands for, or why and where it is refused. What follows the expression only has to be ASCII.\n\
+    Bytes and nodes are counted from 0, lines and columns from 1.\n";
 
 // Puts the beginning of a line that says that a file cannot be read, and answers its length. The name is shown like a text.
 fn unreadable(name: &[u8], out: &mut [u8]) -> usize
@@ -49,83 +37,85 @@ fn unreadable(name: &[u8], out: &mut [u8]) -> usize
     page::say(out, end, b"\"", 0)
 }
 
-// Says why a file cannot be read.
-fn refuse(errors: &impl Print, path: &[u8], error: &io::Error) {
-    let mut out = [0u8; 65536];
-    let n = unreadable(path, &mut out);
-    program::fail(errors, &out[..n], error);
-}
-
 // Explains what a reader gives, or answers why it cannot be read.
-fn explain_from<R: Read>(
+fn explain_from<R: Read, O: Print, E: Print>(
     reader: &mut R,
-    output: &impl Print,
-    errors: &impl Print,
+    console: &Console<'_, O, E>,
 ) -> io::Result<()> {
-    let mut room = input::text_room();
+    let mut room = [0u8; input::ROOM];
+    let mut out = [0u8; 65536];
     let n = input::read_text(reader, &mut room)?;
-    show(output, errors, &room[..n]);
+    let end = report::report(&room[..n], &mut out);
+    console.say(&out[..end]);
     Ok(())
 }
 
-fn explain_input<R: Read>(reader: &mut R, output: &impl Print, errors: &impl Print) {
-    if let Err(error) = explain_from(reader, output, errors) {
-        program::fail(errors, b"explain: cannot read standard input", &error);
+fn explain_input<R: Read, O: Print, E: Print>(reader: &mut R, console: &Console<'_, O, E>) {
+    if let Err(error) = explain_from(reader, console) {
+        fail(
+            console.errors,
+            b"explain: cannot read standard input",
+            &error,
+        );
     }
 }
 
 // Explains the file with this name, or answers why it cannot be read. A name has to be UTF-8.
-fn explain_named(
+fn explain_named<O: Print, E: Print>(
     files: &impl Files,
-    output: &impl Print,
-    errors: &impl Print,
+    console: &Console<'_, O, E>,
     path: &[u8],
 ) -> io::Result<()> {
     let Ok(name) = std::str::from_utf8(path) else {
         return Err(io::Error::from_raw_os_error(NO_TEXT));
     };
-    let mut file = fs::open(files, name)?;
-    explain_from(&mut file, output, errors)
+    explain_from(&mut fs::open(files, name)?, console)
 }
 
-fn explain_file(files: &impl Files, output: &impl Print, errors: &impl Print, path: &[u8]) {
-    if let Err(error) = explain_named(files, output, errors, path) {
-        refuse(errors, path, &error);
+// The same, or says why the file cannot be read.
+fn explain_file<O: Print, E: Print>(files: &impl Files, console: &Console<'_, O, E>, path: &[u8]) {
+    if let Err(error) = explain_named(files, console, path) {
+        let mut out = [0u8; 65536];
+        let n = unreadable(path, &mut out);
+        fail(console.errors, &out[..n], &error);
     }
 }
 
-fn explain_argument(rt: &(impl Env + Files), output: &impl Print, errors: &impl Print) {
-    let mut argument = [0u8; 4096];
-    let n = match rt.arg(1, &mut argument) {
-        Ok(n) => n,
-        Err(FillError::TooLong) => {
-            let error = io::Error::from_raw_os_error(TOO_LONG);
-            program::fail(errors, b"explain: the file's name", &error);
-            return;
+// Puts the one argument into the room, and answers its length.
+fn argument(rt: &impl Env, room: &mut [u8]) -> io::Result<usize>
+    ensures { IfOk result (λ n. n ≤ length room.new) }
+{
+    rt.arg(1, room).map_err(|error| {
+        io::Error::from_raw_os_error(match error {
+            FillError::TooLong => TOO_LONG,
+            FillError::NotPresent => NOT_THERE,
+        })
+    })
+}
+
+// Explains the file that the argument names; `--help` gets the help.
+fn explain_argument<O: Print, E: Print>(rt: &(impl Env + Files), console: &Console<'_, O, E>) {
+    let mut room = [0u8; 4096];
+    match argument(rt, &mut room) {
+        Ok(n) if room[..n] == b"--help"[..] => {
+            let _ = console.output.write_all(console.help);
         }
-        Err(FillError::NotPresent) => {
-            let error = io::Error::from_raw_os_error(NOT_THERE);
-            program::fail(errors, b"explain: the file's name", &error);
-            return;
-        }
-    };
-    if argument[..n] == b"--help"[..] {
-        put_help(output);
-        return;
+        Ok(n) => explain_file(rt, console, &room[..n]),
+        Err(error) => fail(console.errors, b"explain: the file's name", &error),
     }
-    explain_file(rt, output, errors, &argument[..n]);
 }
 
 fn main(rt: HostRuntime) {
-    let output = rt.stdout();
-    let errors = rt.stderr();
+    let console = Console {
+        output: &rt.stdout(),
+        errors: &rt.stderr(),
+        unwritten: b"explain: cannot write",
+        help: HELP,
+        misuse: b"explain: takes one file at most; explain --help says more\n",
+    };
     match program::arg_count(&rt) {
-        1 => explain_input(&mut rt.stdin(), &output, &errors),
-        2 => explain_argument(&rt, &output, &errors),
-        _ => {
-            let _ = errors.write_all(
-                b"explain: takes one file at most; explain --help says more\n",
-            );
-        }
+        1 => explain_input(&mut rt.stdin(), &console),
+        2 => explain_argument(&rt, &console),
+        _ => console.misused(),
     }
 }

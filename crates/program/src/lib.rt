@@ -30,7 +30,7 @@ const ROOM: usize = 128;
 pub fn fail(errors: &impl Print, what: &[u8], error: &io::Error) {
     let mut words = [0; ROOM];
     let mut rest = &mut words[..];
-    let _ = write!(rest, "{error}");
+    let _ = Write::write_fmt(&mut rest, format_args!("{error}"));
     let written = ROOM.saturating_sub(rest.len());
     let words = &words[..written];
     let end = words

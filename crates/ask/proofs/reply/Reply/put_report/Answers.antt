@@ -1,7 +1,7 @@
--- `Output::report` meets its contract: what is held is the report. Assumes nothing.
+-- `Reply::put_report` meets its contract: what is held is the report. Assumes nothing.
 use Rattle.std.proofs.Common.{refl, arith}
 use Rattle.ask.proofs.Held.{held}
-use Rattle.ask.proofs.output.Output.report.Goals as goal
+use Rattle.ask.proofs.reply.Reply.put_report.Goals as goal
 
 pub returns : goal.returns
 returns c = held c.self.told (omega arith) refl c.report-self-inside.ensures
