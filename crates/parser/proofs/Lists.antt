@@ -1,6 +1,6 @@
 -- The steps of reading a list: a child's key, the children so far, the closer. Assumes nothing.
 use Rattle.std.proofs.Common.{◌≡◌, ℕ, suc, ◌+◌, ◌*◌, ◌<◌, ◌≤◌, max, [], ◌∷◌, length, get_or, drop, sym, refl, ap, ◌∙◌, add-one, arith, ne_eqb}
-use lib.Seq.{sets, length-sets}
+use lib.Seq.{sets}
 use Rattle.cel_text.specs.Byte.{Text, blank, colon, comma}
 use Rattle.cel_text.specs.Tree.{Kind, array, object, function, closer, Key, key, unkeyed, container, Trees, ∅, ◌▸◌∶◌, nodes_all, depth_all, count}
 use Rattle.cel_text.specs.Reading.{Stack, inside, Frame, value, entry, State, before, begun, after, Step, go, refuse, syntax, child, fresh, past, limits, max_nodes, with_key}
@@ -102,9 +102,6 @@ pub record Sofar (st : Stack → Frame → State) (x : Text) (w w' : Words) (at 
   pub room : m ≤ max_nodes
   pub fewer : i + n < m
   pub shallow : d ≤ left
-
-pub sofar-length : {st : Stack → Frame → State} {x : Text} {w w' : Words} {at n : ℕ} {c : Kind} {left p m i d : ℕ} → Sofar st x w w' at n c left p m i d → length w' ≡ length w
-sofar-length {w = w} {n = n} s = ap length s.rows ∙ length-sets w (row_words * suc n) (rows_all s.children (suc n) (suc n))
 
 -- where a child is due, and where one has been read
 abbrev pub Due-child : (x : Text) (w w' : Words) (at n : ℕ) (c : Kind) (left p m i d : ℕ) → Type 0

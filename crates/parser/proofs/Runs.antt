@@ -1,5 +1,5 @@
 -- Where a run of a class of bytes ends. Assumes nothing.
-use Rattle.std.proofs.Common.{◌≡◌, ℕ, zero, suc, ◌+◌, ◌-◌, ◌<◌, ◌≤◌, Bool, true, false, not, T, ltb, [], ◌∷◌, length, get_or, drop, sym, refl, ap, ◌∙◌, subst, add-zero, zero-add, arith, ltb→lt, nltb→le, length-drop, drop_of_length-le, get_or-drop, drop-cons, ltb-true, lt-ltb}
+use Rattle.std.proofs.Common.{◌≡◌, ℕ, zero, suc, ◌+◌, ◌-◌, ◌<◌, ◌≤◌, Bool, true, false, not, T, ltb, [], ◌∷◌, length, get_or, drop, sym, refl, ap, ◌∙◌, subst, add-zero, zero-add, arith, ltb→lt, nltb→le, length-drop, get_or-drop, drop-cons, ltb-true, lt-ltb}
 use borrow.Table.Steps.{cases}
 use Rattle.cel_text.specs.Byte.{Text, lead, blank, ascii}
 use Rattle.parser.specs.Run.{end_of, Spaces}
@@ -23,10 +23,6 @@ module _ (f : ℕ → Bool) where
   lead-other z (b ∷ bs) = cases (f b) (λ t. rw t (lead-other z bs)) (λ t. rw t t)
 
   module _ (x : Text) where
-    -- past the text a run is empty
-    pub end_none : (p : ℕ) → length x ≤ p → end_of f x p ≡ p
-    end_none p h = rw (drop_of_length-le x h, add-zero)
-
     -- a byte of another class ends it, one of this class does not
     pub end-stop : (p : ℕ) → f (get_or x p 0) ≡ false → end_of f x p ≡ p
     end-stop p h = rw (lead-stop x p h, add-zero)
@@ -53,9 +49,6 @@ module _ (f : ℕ → Bool) where
 
 -- spaces after one another
 module _ (x : Text) where
-  pub spaces-none : {p : ℕ} → p ≤ length x → Spaces x p p
-  spaces-none h = (omega arith, h, λ i a b. absurd (omega (arith, a, b)))
-
   pub spaces-more : {p q r : ℕ} → Spaces x p q → Spaces x q r → Spaces x p r
   spaces-more {q = q} s t = (
     omega (arith, s.0, t.0),

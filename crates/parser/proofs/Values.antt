@@ -3,7 +3,7 @@ use Rattle.std.proofs.Common.{◌≡◌, ℕ, suc, ◌+◌, ◌*◌, ◌<◌, �
 use lib.Seq.{sets}
 use Rattle.cel_text.specs.Byte.{Text, blank, ident_byte, quote}
 use Rattle.cel_text.specs.Tree.{Kind as Told, Tree, string, container, nodes_all}
-use Rattle.cel_text.specs.Reading.{Stack, level, opened, value, State, before, quoted, begun, Step, syntax, too_deep, too_many, refused, fresh, enter, enter_string, limits, max_depth, max_nodes}
+use Rattle.cel_text.specs.Reading.{Stack, level, opened, value, State, before, quoted, begun, Step, syntax, too_deep, too_many, fresh, enter, enter_string, limits, max_depth, max_nodes}
 use Rattle.cel_text.specs.Table.{Words, kind_number, row_words}
 use Rattle.cel_text.proofs.Laws.Run.{whole-resumes}
 use Rattle.parser.specs.Set.{string_set}
@@ -133,15 +133,6 @@ pub refused-from : {st st' : Stack → State} {x : Text} {at p n left r q : ℕ}
 refused-from gets v = record { fault = v.fault; number = v.number; refuses = λ K a. gets K a ∙ v.refuses K a; within = v.within }
 
 module _ {x : Text} {at : ℕ} {opener : Opener} {from to o : ℕ} (h : Headed x at opener from to o) (n left : ℕ) where
-  pub value-barred : {r q : ℕ} → NotEntered opener o n left r q → RefusedBy (λ K. before (value K)) x at n left r q
-  value-barred b =
-      record {
-        fault = b.fault;
-        number = b.number;
-        refuses = λ K a. h.enters K ∙ ap (λ (s : Step). goes_on s x o) (b.refuses K from to a) ∙ ap (refused b.fault) (sym b.there);
-        within = omega (arith, b.there, h.inside);
-      }
-
   module _ {q : ℕ} (e : Entered opener o n left q) where
     value-enters : (K : Stack) → Around K n left → reads (before (value K)) x at ≡ reads (open_state opener K from to o) x q
     value-enters K a = h.enters K ∙ ap (λ (s : Step). goes_on s x o) (e.goes K from to a) ∙ ap (reads (open_state opener K from to o) x) (sym e.next)

@@ -1,5 +1,5 @@
 -- Runs of a class of bytes, as the contracts of `scan` cite them. Assumes nothing.
-use Rattle.std.specs.Prelude.{◌≡◌, ℕ, zero, suc, ◌+◌, ◌*◌, ◌<◌, ◌≤◌, Bool, ◌&&◌, ◌||◌, length, drop, nat_le, slice_index}
+use Rattle.std.specs.Prelude.{◌≡◌, ℕ, ◌+◌, ◌<◌, ◌≤◌, Bool, ◌&&◌, ◌||◌, length, drop, nat_le, slice_index}
 use Rattle.cel_text.specs.Byte.{Text, blank, ident_byte, ascii, lead}
 use Rattle.parser.specs.Set.{string_set}
 use Rattle.parser.specs.declared.scan.Class.{Class}
@@ -25,15 +25,6 @@ end_of f x p = p + lead f (drop p x)
 -- every byte from place p up to place q is a space, and q is within the text
 abbrev pub Spaces : Text → (p q : ℕ) → Type 0
 Spaces x p q = (p ≤ q) × (q ≤ length x) × ((i : ℕ) → p ≤ i → i < q → slice_index x i ≡ 32)
-
--- n bytes of x from place p + k on: as one number, the first the lowest; and that they are bytes
-abbrev pub number_at : Text → (p n k : ℕ) → ℕ
-number_at x p zero k = 0
-number_at x p (suc n) k = slice_index x (p + k) + 256 * number_at x p n (suc k)
-
-abbrev pub BytesAt : Text → (p n k : ℕ) → Type 0
-BytesAt x p zero k = Unit
-BytesAt x p (suc n) k = (slice_index x (p + k) < 256) × BytesAt x p n (suc k)
 
 -- blanks from place p on, an identifier with these ends, and blanks up to `end`
 pub record NamedAt (x : Text) (p from to end : ℕ) : Type 0 where
