@@ -5,8 +5,8 @@
 
 mod mapping;
 pub mod name;
-mod row;
 mod span;
+mod tree;
 
 ghost use Rattle.std.specs.Prelude.{◌≡◌, length};
 ghost use Rattle.cel_policy.specs.Policy.{no_policy};
