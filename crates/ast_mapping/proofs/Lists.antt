@@ -139,26 +139,26 @@ module _ (w : Words) (x : Text) where
 
 -- ---- an array of strings that is validated, whose row was read
 
-module _ (e : TreeNode) (name : ℕ) (a : expected_kind name ≡ array) {row : Row} (k : RowRead e.table.now e.node.0 row) {kind : ℕ} (i : kind ≡ kind_number (expected_kind name)) where
-  list_tabled : Tabled e.table.now e.node.0
-  list_tabled = tabled e.table.now e.text.now e.node.0 e.held
+module _ (e : TreeNode) (name : ℕ) (a : expected_kind name ≡ array) {row : Row} (k : RowRead e.table.now e.number.0 row) {kind : ℕ} (i : kind ≡ kind_number (expected_kind name)) where
+  list_tabled : Tabled e.table.now e.number.0
+  list_tabled = tabled e.table.now e.text.now e.number.0 e.held
 
-  pub no-list : {r : Told} → (row.kind ≡ kind → ⊥) → refusal_told r ≡ fields_used 7 name e.node.0 → ListChecked e name (Err r)
+  pub no-list : {r : Told} → (row.kind ≡ kind → ⊥) → refusal_told r ≡ fields_used 7 name e.number.0 → ListChecked e name (Err r)
   no-list h t =
       refuses t
-      (ap (λ (c : Kind). unexpected_type name (kind_number c) e.node.0) a
-      ∙ wrong-array e.table.now e.text.now name e.node.0 e.held (λ f. h (k.kind ∙ f ∙ sym (i ∙ ap kind_number a))))
-      (tabled-small list_tabled e.node.0 list_tabled.begun)
+      (ap (λ (c : Kind). unexpected_type name (kind_number c) e.number.0) a
+      ∙ wrong-array e.table.now e.text.now name e.number.0 e.held (λ f. h (k.kind ∙ f ∙ sym (i ∙ ap kind_number a))))
+      (tabled-small list_tabled e.number.0 list_tabled.begun)
 
-  module _ (h : row.kind ≡ kind) (next : ℕ) (first : e.node.0 + 1 ≤ next) (are : (i : ℕ) → e.node.0 + 1 ≤ i → i < next → word e.table.now i 0 ≡ string_kind) where
-    of-array : word e.table.now e.node.0 0 ≡ kind_number array
+  module _ (h : row.kind ≡ kind) (next : ℕ) (first : e.number.0 + 1 ≤ next) (are : (i : ℕ) → e.number.0 + 1 ≤ i → i < next → word e.table.now i 0 ≡ string_kind) where
+    of-array : word e.table.now e.number.0 0 ≡ kind_number array
     of-array = sym k.kind ∙ h ∙ i ∙ ap kind_number a
 
-    pub all-strings : row.past.0 ≤ next → (e.node.0 + 1 ≤ row.past.0 → next ≤ row.past.0) → ListChecked e name (Ok tt)
+    pub all-strings : row.past.0 ≤ next → (e.number.0 + 1 ≤ row.past.0 → next ≤ row.past.0) → ListChecked e name (Ok tt)
     all-strings l m =
         let end : next ≤ row.past.0 = m (omega (arith, k.past, list_tabled.begun)) in
         record {
-          is = strings-are e.table.now e.text.now name e.node.0 e.held of-array next (omega arith) (λ i a b. are i (omega arith) b) (omega (arith, k.past));
+          is = strings-are e.table.now e.text.now name e.number.0 e.held of-array next (omega arith) (λ i a b. are i (omega arith) b) (omega (arith, k.past));
           inside = tt;
         }
 
@@ -170,6 +170,6 @@ module _ (e : TreeNode) (name : ℕ) (a : expected_kind name ≡ array) {row : R
       pub no-string-there : {t : Told} → (element.kind ≡ string_kind → ⊥) → refusal_told t ≡ kind_refused name string_kind next → ListChecked e name (Err t)
       no-string-there f t =
           refuses t
-          (no-string-at e.table.now e.text.now name e.node.0 e.held of-array next (omega arith) (λ i l m. are i (omega arith) m) (omega (arith, k.past))
+          (no-string-at e.table.now e.text.now name e.number.0 e.held of-array next (omega arith) (λ i l m. are i (omega arith) m) (omega (arith, k.past))
           (λ g. f (element-read.kind ∙ g)))
           (tabled-small list_tabled next (omega (arith, k.past)))

@@ -73,27 +73,27 @@ module _ (w : Words) where
 
 -- ---- nodes that were found
 
-pub small : (e : TreeNode) → e.node.0 < max_nodes
-small e = few e.table.now e.text.now e.node.0 e.held
+pub small : (e : TreeNode) → e.number.0 < max_nodes
+small e = few e.table.now e.text.now e.number.0 e.held
 
 module _ (e : TreeNode) where
   -- a key that is missing
-  pub missing : {name : ℕ} {A B : Type 0} {f : A → B} {P : A → Type 0} {d : Told} → refusal_told d ≡ fields_used 10 name e.node.0 → Gives f P (Err d) (missing_property name e.node.0)
+  pub missing : {name : ℕ} {A B : Type 0} {f : A → B} {P : A → Type 0} {d : Told} → refusal_told d ≡ fields_used 10 name e.number.0 → Gives f P (Err d) (missing_property name e.number.0)
   missing t = refuses t refl (small e)
 
   -- which of two keys is there
   pub picked : {a b : ℕ} {f g : Option TreeNode} (both neither : ℕ) {r : Result (Which TreeNode) Told} → Looked e a f → Looked e b g
-      → given_as (only_as (λ a. a)) r ≡ exactly_one both neither e.node.0 (found_as (λ a. a) f) (found_as (λ a. a) g)
-      → Gives (only_as node_of) (OnlyIf (With e.table.now)) r (exactly_one both neither e.node.0 (lookup a (children (node_of e))) (lookup b (children (node_of e))))
-  picked {f = f} {g = g} both neither {r = r} l k h = rw (sym l.found, sym k.found) (chosen node_of (With e.table.now) both neither e.node.0 f g r h (small e) l.same k.same)
+      → given_as (only_as (λ a. a)) r ≡ exactly_one both neither e.number.0 (found_as (λ a. a) f) (found_as (λ a. a) g)
+      → Gives (only_as node_of) (OnlyIf (With e.table.now)) r (exactly_one both neither e.number.0 (lookup a (children (node_of e))) (lookup b (children (node_of e))))
+  picked {f = f} {g = g} both neither {r = r} l k h = rw (sym l.found, sym k.found) (chosen node_of (With e.table.now) both neither e.number.0 f g r h (small e) l.same k.same)
 
 -- what is given in a table is given in the same table
 pub moved : {A B : Type 0} (f : Words → A → B) (P : Words → A → Type 0) {w w' : Words} {r : Result A Told} {m : Mapped B} → w' ≡ w → Gives (f w') (P w') r m → Gives (f w) (P w) r m
 moved f P {r = r} {m = m} = subst (λ (v : Words). Gives (f v) (P v) r m)
 
 -- a list that was validated, in the table of the object that has it
-pub listed : {w : Words} (m : TreeNode) (name : ℕ) → With w m → ListChecked m name (Ok tt) → Gives (list_of w) (ListIn w) (Ok m.node) (string_array name (node_of m))
-listed m name s k = moved list_of ListIn s (record { is = k.is; inside = tabled m.table.now m.text.now m.node.0 m.held })
+pub listed : {w : Words} (m : TreeNode) (name : ℕ) → With w m → ListChecked m name (Ok tt) → Gives (list_of w) (ListIn w) (Ok m.number) (string_array name (node_of m))
+listed m name s k = moved list_of ListIn s (record { is = k.is; inside = tabled m.table.now m.text.now m.number.0 m.held })
 
 -- ---- the root
 
@@ -102,21 +102,21 @@ unfolding first_child first_of
 first-begins node all = refl
 first-begins node (less s) = first-begins node s
 
-module _ (e : TreeNode) {row : Row} (k : RowRead e.table.now e.node.0 row) where
+module _ (e : TreeNode) {row : Row} (k : RowRead e.table.now e.number.0 row) where
   -- without an argument
-  pub bare : row.past.0 ≡ e.node.0 + 1 → missing_parameter e.node.0 ≡ first_child e.node.0 (children (node_of e))
+  pub bare : row.past.0 ≡ e.number.0 + 1 → missing_parameter e.number.0 ≡ first_child e.number.0 (children (node_of e))
   unfolding first_child
   bare l =
-      ap (first_child e.node.0)
-      (last-child e.table.now e.text.now e.node.0 e.held {next = suc e.node.0} (begins-none (children (node_of e))) (omega arith) (omega (arith, k.past)))
+      ap (first_child e.number.0)
+      (last-child e.table.now e.text.now e.number.0 e.held {next = suc e.number.0} (begins-none (children (node_of e))) (omega arith) (omega (arith, k.past)))
 
-  module _ (l : row.past.0 ≡ e.node.0 + 1 → ⊥) where
-    argument : Child e.table.now e.text.now e.node.0 e.held childless (suc e.node.0)
-    argument = next-child e.table.now e.text.now e.node.0 e.held (begins-none (children (node_of e))) (omega arith) (omega (arith, l, k.past, later e.table.now e.text.now e.node.0 e.held))
+  module _ (l : row.past.0 ≡ e.number.0 + 1 → ⊥) where
+    argument : Child e.table.now e.text.now e.number.0 e.held childless (suc e.number.0)
+    argument = next-child e.table.now e.text.now e.number.0 e.held (begins-none (children (node_of e))) (omega arith) (omega (arith, l, k.past, later e.table.now e.text.now e.number.0 e.held))
 
-    pub argument-held : Held e.table.now e.text.now (suc e.node.0)
+    pub argument-held : Held e.table.now e.text.now (suc e.number.0)
     argument-held = argument.is
 
-    pub with-argument : good (node_at e.table.now e.text.now (suc e.node.0)) ≡ first_child e.node.0 (children (node_of e))
+    pub with-argument : good (node_at e.table.now e.text.now (suc e.number.0)) ≡ first_child e.number.0 (children (node_of e))
     unfolding first_child first_of
-    with-argument = sym (first-begins e.node.0 argument.begins)
+    with-argument = sym (first-begins e.number.0 argument.begins)

@@ -61,27 +61,27 @@ module _ (w : Words) (x : Text) (c : Kind) (name : ℕ) where
 
 -- ---- a node that is validated, whose row was read
 
-module _ (e : TreeNode) (name : ℕ) {row : Row} (k : RowRead e.table.now e.node.0 row) {kind : ℕ} (i : kind ≡ kind_number (expected_kind name)) where
-  small : e.node.0 < max_nodes
-  small = few e.table.now e.text.now e.node.0 e.held
+module _ (e : TreeNode) (name : ℕ) {row : Row} (k : RowRead e.table.now e.number.0 row) {kind : ℕ} (i : kind ≡ kind_number (expected_kind name)) where
+  small : e.number.0 < max_nodes
+  small = few e.table.now e.text.now e.number.0 e.held
 
-  pub wrong-kind : {r : Told} → (row.kind ≡ kind → ⊥) → refusal_told r ≡ fields_used 7 name e.node.0 → Checked e name (Err r)
-  wrong-kind h t = refuses t (wrong e.table.now e.text.now (expected_kind name) name e.node.0 e.held (λ f. h (k.kind ∙ f ∙ sym i))) small
+  pub wrong-kind : {r : Told} → (row.kind ≡ kind → ⊥) → refusal_told r ≡ fields_used 7 name e.number.0 → Checked e name (Err r)
+  wrong-kind h t = refuses t (wrong e.table.now e.text.now (expected_kind name) name e.number.0 e.held (λ f. h (k.kind ∙ f ∙ sym i))) small
 
   module _ (h : row.kind ≡ kind) where
-    named : NameAt e.table.now e.text.now e.node.0 name (typed_of e) (typed (expected_kind name) name (node_of e))
-    named = right e.table.now e.text.now (expected_kind name) name e.node.0 e.held (sym k.kind ∙ h ∙ i)
+    named : NameAt e.table.now e.text.now e.number.0 name (typed_of e) (typed (expected_kind name) name (node_of e))
+    named = right e.table.now e.text.now (expected_kind name) name e.number.0 e.held (sym k.kind ∙ h ∙ i)
 
     pub name-inside : (row.from.0 ≤ row.to.0) × (row.to.0 ≤ length e.text.now)
     name-inside = (omega (arith, k.from, k.to, named.ordered), omega (arith, k.to, named.inside))
 
     module _ {b : Bool} {part : Text} (is : b ≡ same part (spelling name)) (q : part ≡ slice row.from.0 row.to.0 e.text.now) where
-      decides : cond b (good (typed_of e)) (unexpected_name name e.node.0) ≡ typed (expected_kind name) name (node_of e)
+      decides : cond b (good (typed_of e)) (unexpected_name name e.number.0) ≡ typed (expected_kind name) name (node_of e)
       decides =
-          let name-at : part ≡ slice (word e.table.now e.node.0 1) (word e.table.now e.node.0 2) e.text.now = q ∙ rw (k.from, k.to) in
+          let name-at : part ≡ slice (word e.table.now e.number.0 1) (word e.table.now e.number.0 2) e.text.now = q ∙ rw (k.from, k.to) in
           rw (is, name-at) named.decides
 
-      pub wrong-name : {r : Told} → b ≡ false → refusal_told r ≡ fields_used 8 name e.node.0 → Checked e name (Err r)
+      pub wrong-name : {r : Told} → b ≡ false → refusal_told r ≡ fields_used 8 name e.number.0 → Checked e name (Err r)
       wrong-name f t = refuses t (rw f at decides) small
 
       pub right-name : b ≡ true → Checked e name (Ok tt)

@@ -24,26 +24,26 @@ use Rattle.ast_mapping.proofs.View.{Begins, begins-none, past, Child, next-child
 pub record Passed (e : TreeNode) (name next : ℕ) (r : Option TreeNode) : Type 0 where
   pub before : Nodes Span
   pub begins : Begins (children (node_of e)) before
-  pub place : next ≡ suc e.node.0 + sizes before
+  pub place : next ≡ suc e.number.0 + sizes before
   pub found : found_as node_of r ≡ lookup name before
   pub same : FoundIf (With e.table.now) r
 
-pub none_passed : (e : TreeNode) (name : ℕ) → Passed e name (e.node.0 + 1) None
+pub none_passed : (e : TreeNode) (name : ℕ) → Passed e name (e.number.0 + 1) None
 unfolding lookup
 none_passed e name = record { before = childless; begins = begins-none (children (node_of e)); place = omega arith; found = refl; same = tt }
 
-module _ {e : TreeNode} {name : ℕ} {next : Numbered} {r : Option TreeNode} (p : Passed e name next.0 r) {whole : Row} (k : RowRead e.table.now e.node.0 whole) where
+module _ {e : TreeNode} {name : ℕ} {next : Numbered} {r : Option TreeNode} (p : Passed e name next.0 r) {whole : Row} (k : RowRead e.table.now e.number.0 whole) where
   pub all-passed : whole.past.0 ≤ next.0 → Looked e name r
   all-passed l =
       record {
-        found = p.found ∙ ap (lookup name) (last-child e.table.now e.text.now e.node.0 e.held p.begins p.place (omega (arith, k.past)));
+        found = p.found ∙ ap (lookup name) (last-child e.table.now e.text.now e.number.0 e.held p.begins p.place (omega (arith, k.past)));
         same = p.same;
       }
 
   -- the next child
   module _ (l : next.0 < whole.past.0) where
-    passing : Child e.table.now e.text.now e.node.0 e.held p.before next.0
-    passing = next-child e.table.now e.text.now e.node.0 e.held p.begins p.place (omega (arith, k.past))
+    passing : Child e.table.now e.text.now e.number.0 e.held p.before next.0
+    passing = next-child e.table.now e.text.now e.number.0 e.held p.begins p.place (omega (arith, k.past))
 
     pub child-held : Held e.table.now e.text.now next.0
     child-held = passing.is
@@ -67,8 +67,8 @@ module _ {e : TreeNode} {name : ℕ} {next : Numbered} {r : Option TreeNode} (p 
             }
 
         -- it has this key, or another
-        pub hit : b ≡ true → (h : Held e.table.now e.text.now next.0) → Passed e name row.past.0 (Some (record { text = e.text; table = e.table; node = next; held = h }))
-        hit t h = one-passed (Some (record { text = e.text; table = e.table; node = next; held = h })) refl (rw t)
+        pub hit : b ≡ true → (h : Held e.table.now e.text.now next.0) → Passed e name row.past.0 (Some (record { text = e.text; table = e.table; number = next; held = h }))
+        hit t h = one-passed (Some (record { text = e.text; table = e.table; number = next; held = h })) refl (rw t)
 
         pub miss : b ≡ false → Passed e name row.past.0 r
         miss t = one-passed r p.same (rw t)

@@ -24,10 +24,10 @@ use Rattle.ast_mapping.specs.declared.mapping.Mapped.TheVariants.{Skip, Response
 
 -- the node that is read back
 abbrev pub node_of : TreeNode → Node Span
-node_of e = node_at e.table.now e.text.now e.node.0
+node_of e = node_at e.table.now e.text.now e.number.0
 
 abbrev pub typed_of : TreeNode → Typed Span
-typed_of e = typed_at e.table.now e.text.now e.node.0
+typed_of e = typed_at e.table.now e.text.now e.number.0
 
 -- what was found, where f says what it stands for
 abbrev pub found_as : {A B : Type 0} → (A → B) → Option A → Maybe B
@@ -99,7 +99,7 @@ abbrev pub Checked : TreeNode → (name : ℕ) → Result Unit Told → Type 0
 Checked e name r = Passes (typed_of e) r (typed (expected_kind name) name (node_of e))
 
 abbrev pub ListChecked : TreeNode → (name : ℕ) → Result Unit Told → Type 0
-ListChecked e name r = Passes (strings_of e.table.now e.node.0) r (string_array name (node_of e))
+ListChecked e name r = Passes (strings_of e.table.now e.number.0) r (string_array name (node_of e))
 
 -- which of two, where f says what each stands for
 abbrev pub only_as : {A B : Type 0} → (A → B) → Which A → Only B
@@ -121,8 +121,8 @@ ListIn w m = Tabled w m.0
 abbrev pub Listing : TreeNode → (name : ℕ) → Result Numbered Told → Type 0
 Listing e name r = Gives (list_of e.table.now) (ListIn e.table.now) r (list_at name (typed_of e))
 
-abbrev pub HeadersFound : Words → Result (Option Numbered) Told → Mapped (Maybe (List Span)) → Type 0
-HeadersFound w r m = Gives (found_as (list_of w)) (FoundIf (ListIn w)) r m
+abbrev pub HeadersFound : TreeNode → Result (Option Numbered) Told → Mapped (Maybe (List Span)) → Type 0
+HeadersFound e r m = Gives (found_as (list_of e.table.now)) (FoundIf (ListIn e.table.now)) r m
 
 abbrev pub request_as : Words → Asked → Request Span
 request_as w q = record { request_headers = list_of w q.headers; query_parameters = list_of w q.query }
@@ -131,14 +131,14 @@ abbrev pub RequestIn : Words → Asked → Type 0
 RequestIn w q = ListIn w q.headers × ListIn w q.query
 
 -- a request part that is there, and one that may be absent
-abbrev pub RequestFound : Words → Result Asked Told → Mapped (Maybe (Request Span)) → Type 0
-RequestFound w r m = Gives (λ q. some (request_as w q)) (RequestIn w) r m
+abbrev pub RequestFound : TreeNode → Result Asked Told → Mapped (Maybe (Request Span)) → Type 0
+RequestFound e r m = Gives (λ q. some (request_as e.table.now q)) (RequestIn e.table.now) r m
 
-abbrev pub Requested : Words → Result (Option Asked) Told → Mapped (Maybe (Request Span)) → Type 0
-Requested w r m = Gives (found_as (request_as w)) (FoundIf (RequestIn w)) r m
+abbrev pub Requested : TreeNode → Result (Option Asked) Told → Mapped (Maybe (Request Span)) → Type 0
+Requested e r m = Gives (found_as (request_as e.table.now)) (FoundIf (RequestIn e.table.now)) r m
 
-abbrev pub Responded : Words → Result (Which Numbered) Told → Mapped (Only (List Span)) → Type 0
-Responded w r m = Gives (only_as (list_of w)) (OnlyIf (ListIn w)) r m
+abbrev pub Responded : TreeNode → Result (Which Numbered) Told → Mapped (Only (List Span)) → Type 0
+Responded e r m = Gives (only_as (list_of e.table.now)) (OnlyIf (ListIn e.table.now)) r m
 
 -- ---- the policy
 

@@ -120,10 +120,10 @@ fn validate_node(node: &TreeNode, name: u32) -> Result<(), Refusal>
 {
     let row = node.row();
     if row.kind != expected_kind(name) {
-        return Err(refused(UNEXPECTED_NODE_TYPE, name, node.node));
+        return Err(refused(UNEXPECTED_NODE_TYPE, name, node.number));
     }
     if !name::is_name(node.part(row.from, row.to), name) {
-        return Err(refused(UNEXPECTED_NODE_NAME, name, node.node));
+        return Err(refused(UNEXPECTED_NODE_NAME, name, node.number));
     }
     Ok(())
 }
@@ -135,9 +135,9 @@ fn validate_string_array(list: &TreeNode, name: u32) -> Result<(), Refusal>
 {
     let row = list.row();
     if row.kind != expected_kind(name) {
-        return Err(refused(UNEXPECTED_NODE_TYPE, name, list.node));
+        return Err(refused(UNEXPECTED_NODE_TYPE, name, list.number));
     }
-    for next in list.node.0 + 1..row.past.0 {
+    for next in list.number.0 + 1..row.past.0 {
         let element = Node(next);
         if read_row(list.table, element).kind != STRING {
             return Err(unexpected_type(name, STRING, element));
@@ -170,15 +170,15 @@ fn string_list(object: &TreeNode, name: u32) -> Result<Node, Refusal>
     ensures { Listing object.now name result }
 {
     let Some(list) = object.lookup(name) else {
-        return Err(refused(MISSING_OBJECT_PROPERTY, name, object.node));
+        return Err(refused(MISSING_OBJECT_PROPERTY, name, object.number));
     };
     validate_string_array(&list, name)?;
-    Ok(list.node)
+    Ok(list.number)
 }
 
 // An object 8 with its two lists.
 fn request_lists(request: &TreeNode) -> Result<Request, Refusal>
-    ensures { RequestFound request.now.table.now result (and_then (typed object RequestCertification (node_of request.now)) request_lists) }
+    ensures { RequestFound request.now result (and_then (typed object RequestCertification (node_of request.now)) request_lists) }
 {
     validate_node(request, REQUEST_CERTIFICATION_OBJECT)?;
     let headers = string_list(request, CERTIFIED_REQUEST_HEADERS)?;
@@ -188,13 +188,13 @@ fn request_lists(request: &TreeNode) -> Result<Request, Refusal>
 
 // The request part of an object 5, where it has one.
 fn validate_request_certification(certification: &TreeNode) -> Result<Option<Request>, Refusal>
-    ensures { Requested certification.now.table.now result (request_part (typed_of certification.now)) }
+    ensures { Requested certification.now result (request_part (typed_of certification.now)) }
 {
     let only = exactly_one(
         certification.lookup(NO_REQUEST_CERTIFICATION),
         certification.lookup(REQUEST_CERTIFICATION),
         EXTRANEOUS_REQUEST_CERTIFICATION_PROPERTY,
-        certification.node,
+        certification.number,
     )?;
     match only {
         Only::First(_) => Ok(None),
@@ -205,7 +205,7 @@ fn validate_request_certification(certification: &TreeNode) -> Result<Option<Req
 // The strings under key `headers` of the list object at this key, where both keys are present.
 fn response_headers(object: &TreeNode, name: u32) -> Result<Option<Node>, Refusal>
     requires { expected_kind name ≡ array }
-    ensures { HeadersFound object.now.table.now result (list_of name (lookup name (children (node_of object.now)))) }
+    ensures { HeadersFound object.now result (list_of name (lookup name (children (node_of object.now)))) }
 {
     let Some(list) = object.lookup(name) else {
         return Ok(None);
@@ -215,18 +215,18 @@ fn response_headers(object: &TreeNode, name: u32) -> Result<Option<Node>, Refusa
         return Ok(None);
     };
     validate_string_array(&headers, name)?;
-    Ok(Some(headers.node))
+    Ok(Some(headers.number))
 }
 
 // The response part of an object 5. Both lists are looked at before either is found to be one too many.
 fn validate_response_certification(certification: &TreeNode) -> Result<Only<Node>, Refusal>
-    ensures { Responded certification.now.table.now result (response_part (typed_of certification.now)) }
+    ensures { Responded certification.now result (response_part (typed_of certification.now)) }
 {
     let Some(response) = certification.lookup(RESPONSE_CERTIFICATION) else {
         return Err(refused(
             MISSING_OBJECT_PROPERTY,
             RESPONSE_CERTIFICATION,
-            certification.node,
+            certification.number,
         ));
     };
     validate_node(&response, RESPONSE_CERTIFICATION_OBJECT)?;
@@ -236,7 +236,7 @@ fn validate_response_certification(certification: &TreeNode) -> Result<Only<Node
         included,
         excluded,
         EXTRANEOUS_RESPONSE_CERTIFICATION_PROPERTY,
-        response.node,
+        response.number,
     )
 }
 
@@ -279,7 +279,7 @@ fn validate_arguments(arguments: &TreeNode) -> Result<Mapped, Refusal>
         arguments.lookup(NO_CERTIFICATION),
         arguments.lookup(CERTIFICATION),
         EXTRANEOUS_VALIDATION_ARGS_PROPERTY,
-        arguments.node,
+        arguments.number,
     )?;
     match only {
         Only::First(_) => Ok(Mapped::Skip),
@@ -295,16 +295,16 @@ pub(crate) fn map_cel_ast(text: &[u8], table: &[u32]) -> Result<Mapped, Refusal>
     let root = TreeNode {
         text,
         table,
-        node: Node(0),
+        number: Node(0),
     };
     validate_node(&root, DEFAULT_CERTIFICATION)?;
     if root.row().past.0 == 1 {
-        return Err(refused(MISSING_FUNCTION_PARAMETER, VALIDATION_ARGS, root.node));
+        return Err(refused(MISSING_FUNCTION_PARAMETER, VALIDATION_ARGS, root.number));
     }
     let arguments = TreeNode {
         text,
         table,
-        node: Node(1),
+        number: Node(1),
     };
     validate_arguments(&arguments)
 }

@@ -10,8 +10,8 @@ use parser::{Node, Place};
 pub(crate) struct TreeNode<'a> {
     pub text: &'a [u8],
     pub table: &'a [u32],
-    pub node: Node,
-    ghost held: { Held table.now text.now node.0 } by { Held-prop table.now text.now node.0 },
+    pub number: Node,
+    ghost held: { Held table.now text.now number.0 } by { Held-prop table.now text.now number.0 },
 }
 
 impl<'a> TreeNode<'a> {
@@ -21,9 +21,9 @@ impl<'a> TreeNode<'a> {
     ghost use Rattle.ast_mapping.specs.Steps.{Looked};
 
     pub(crate) fn row(&self) -> Row
-        ensures { RowRead self.now.table.now self.now.node.0 result }
+        ensures { RowRead self.now.table.now self.now.number.0 result }
     {
-        read_row(self.table, self.node)
+        read_row(self.table, self.number)
     }
 
     // The bytes between two places of the text.
@@ -41,13 +41,13 @@ impl<'a> TreeNode<'a> {
         let text = self.text;
         let table = self.table;
         let end = self.row().past;
-        let mut next = Node(self.node.0 + 1);
+        let mut next = Node(self.number.0 + 1);
         let mut found = None;
         while next.0 < end.0 {
             let child = TreeNode {
                 text,
                 table,
-                node: next,
+                number: next,
             };
             let row = child.row();
             next = row.past;
