@@ -35,6 +35,7 @@ impl<'a> TreeNode<'a> {
     }
 
     // The last child of this object whose key is this name: it takes the place of what was found before.
+    #[inline(always)]
     pub(crate) fn lookup(&self, name: u32) -> Option<TreeNode<'a>>
         ensures { Looked self.now name result }
     {
