@@ -6,9 +6,6 @@ use native.Mathlib.Numerals.{add-one}
 use mathlib.Core.List.{List, ◌++◌, append_assoc}
 use lib.ListN.{length, set, length-append}
 use lib.Seq.{sets}
-use mir.Syntax.{w32}
-use mir.Val.{Fits}
-use Rattle.cel_text.specs.Reading.{max_nodes}
 use Rattle.cel_text.specs.Table.{Words, word, row_at}
 use Rattle.cel_policy.specs.Policy.{Span}
 use Rattle.cel_policy.specs.Spans.{span_rows}
@@ -87,22 +84,3 @@ module _ (w : Words) (q : Request) (l : Response) (s s₁ s₂ s₃ : Words) (a 
         rows = f.rows ∙ rw (two, place) (put-more s 0 (A ++ B) C) ∙ ap (λ (ss : List Span). sets s 0 (span_rows ss)) (append_assoc A B C);
         counts = cc (first, second, third);
       }
-
--- three lists of a, b and c strings have room in s words
-pub record Room (a b c s : ℕ) : Type 0 where
-  pub words : 2 * (a + (b + c)) ≤ s
-  pub few : a + (b + c) ≤ max_nodes
-
-module _ {a b c s : ℕ} (r : Room a b c s) where
-  pub room-first : 2 * (0 + a) ≤ s
-  room-first = omega (arith, r.words)
-
-  module _ {first : ℕ} (e : first ≡ 0 + a) where
-    pub room-second : {s₁ : ℕ} → s₁ ≡ s → 2 * (first + b) ≤ s₁
-    room-second h = omega (arith, r.words)
-
-    pub fits-first : Fits w32 first
-    fits-first = record { fits = omega (arith, r.few) }
-
-    pub room-third : {second s₁ s₂ : ℕ} → second ≡ first + b → s₁ ≡ s → s₂ ≡ s₁ → 2 * (second + c) ≤ s₂
-    room-third f h k = omega (arith, r.words)

@@ -24,7 +24,7 @@ use parser::{
     MISSING_OBJECT_PROPERTY, Node, OBJECT, STRING, UNEXPECTED_NODE_NAME, UNEXPECTED_NODE_TYPE,
 };
 
-// A refusal of 7 to 16: its number, the expected name and kind, and the node.
+// A refusal of 7 to 16: its number, the expected name and kind, and the node. Numbers and no enum: SPEC.md's, as the answer has them, and matched by ranges.
 #[derive(Clone, Copy)]
 pub(crate) struct Refusal {
     pub refusal: u32,

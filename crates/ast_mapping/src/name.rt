@@ -3,6 +3,7 @@ ghost use Rattle.std.specs.Prelude.{◌≡◌};
 ghost use Rattle.cel_policy.specs.Names.{same, spelling};
 ghost use Rattle.pieces.specs.Pieces.{Wrote};
 
+// Numbers and no enum: a caller of `spell` may give any, and an answer's name is such a number.
 pub const DEFAULT_CERTIFICATION: u32 = 1;
 
 pub const VALIDATION_ARGS: u32 = 2;

@@ -1,6 +1,6 @@
 // The span table: start and end of each string of a policy, request headers first, then query parameters, then response headers.
 ghost use Rattle.std.specs.Prelude.{◌≡◌, ◌+◌, ◌*◌, ◌≤◌, length, MatchResult};
-ghost use Rattle.cel_policy.specs.Policy.{Span, no_policy, counted, numbers, string_count, all_strings};
+ghost use Rattle.cel_policy.specs.Policy.{Span, counted, numbers, string_count, all_strings};
 ghost use Rattle.cel_policy.specs.Mapping.{skipped};
 ghost use Rattle.cel_policy.specs.Spans.{spans_left};
 ghost use Rattle.parser.specs.Found.{told};
@@ -32,31 +32,18 @@ fn put_list(table: &[u32], list: Node, spans: &mut [u32], from: usize) -> usize
     from + count
 }
 
-// The policy without a form: nothing was accepted.
-pub(crate) fn no_policy() -> Policy
-    ensures { numbers result ≡ no_policy }
-{
-    Policy {
-        form: 0,
-        kind: 0,
-        request: 0,
-        query: 0,
-        response: 0,
-    }
-}
-
 // The policy without lists.
 fn skip() -> Policy
     ensures { numbers result ≡ counted {A = Span} skipped }
 {
     Policy {
         form: SKIP,
-        ..no_policy()
+        ..Policy::default()
     }
 }
 
 impl ListKind {
-    // Its number in SPEC.md.
+    // The number that SPEC.md gives it.
     fn number(self) -> u32
         ensures { result ≡ list_number self }
     {
@@ -77,7 +64,7 @@ fn put_response(table: &[u32], response: Response, spans: &mut [u32]) -> Policy
         form: RESPONSE_ONLY,
         kind: response.kind.number(),
         response: count as u32,
-        ..no_policy()
+        ..Policy::default()
     }
 }
 

@@ -5,7 +5,7 @@ use crate::name;
 use parser::row::{Row, read_row};
 use parser::{Node, Place};
 
-// A node, with the text and the table that it is read back from.
+// A node, with the text and the table that it is read back from: the table has its row, and those of its subtree.
 #[derive(Clone, Copy)]
 pub(crate) struct TreeNode<'a> {
     pub text: &'a [u8],
@@ -20,6 +20,7 @@ impl<'a> TreeNode<'a> {
     ghost use Rattle.ast_mapping.specs.View.{RowRead};
     ghost use Rattle.ast_mapping.specs.Steps.{Looked};
 
+    // Its row.
     pub(crate) fn row(&self) -> Row
         ensures { RowRead self.now.table.now self.now.number.0 result }
     {
@@ -34,7 +35,7 @@ impl<'a> TreeNode<'a> {
         &self.text[from.0..to.0]
     }
 
-    // The last child of this object whose key is this name: it takes the place of what was found before.
+    // The last child of this object whose key is this name: it takes the place of what was found before. Inlined, so that the name is known.
     #[inline(always)]
     pub(crate) fn lookup(&self, name: u32) -> Option<TreeNode<'a>>
         ensures { Looked self.now name result }
@@ -44,6 +45,7 @@ impl<'a> TreeNode<'a> {
         let end = self.row().past;
         let mut next = Node(self.number.0 + 1);
         let mut found = None;
+        // No `for`: the next child stands after this one's subtree, where its row says.
         while next.0 < end.0 {
             let child = TreeNode {
                 text,
