@@ -1,10 +1,9 @@
-pub mod Counts
 pub mod Names
 pub mod View
 pub mod Walk
+pub mod Parts
 pub mod Steps
 pub mod Lists
-pub mod Parts
 pub mod Written
 pub mod Spans
 pub mod Policies

@@ -1,21 +1,26 @@
 -- Arrays of strings: their elements are rows that follow one another, and the first that is no string refuses. Assumes nothing.
 use mathlib.Core.Path.{◌≡◌, refl, sym, ap, subst, ◌∙◌}
-use Prim.Native.Nat.{ℕ, zero, suc, ◌+◌, ◌-◌, ◌*◌, ◌≤◌, ◌<◌}
+use Prim.Native.Nat.{ℕ, zero, suc, ◌+◌, ◌-◌, ◌≤◌, ◌<◌}
 use native.Mathlib.Nat.{add-zero}
 use native.Mathlib.Omega.{arith}
 use mathlib.Core.List.{List, [], ◌∷◌, ◌++◌}
-use lib.ListN.{length}
 use lib.Seq.{slice}
 use borrow.Author.Tests.{eqb-false}
+use Rattle.std.specs.Prelude.{Ok, Err}
 use Rattle.cel_text.specs.Byte.{Text}
-use Rattle.cel_text.specs.Tree.{array, object, function}
-use Rattle.cel_text.specs.Reading.{max_nodes}
-use Rattle.cel_text.specs.Table.{Words, row_words, kind_number, string_kind, word}
+use Rattle.cel_text.specs.Tree.{Kind, array, object, function}
+use Rattle.cel_text.specs.Table.{Words, kind_number, string_kind, word, row_at}
 use Rattle.cel_policy.specs.Policy.{Span}
 use Rattle.cel_policy.specs.Mapping.{Node, leaf, branch, Nodes, childless, ◌▹◌∶◌, Refusal, good, bad, unexpected_type, element, elements, string_array}
 use Rattle.cel_policy.specs.Sizes.{sizes}
-use Rattle.ast_mapping.specs.View.{span_of, spans_from, strings_of, node_at, number, children, Stands, Held, Tabled}
-use Rattle.ast_mapping.proofs.View.{no-string, Begins, all, less, begins-none, past, within, later, Child, next-child, last-child}
+use Rattle.parser.specs.Rows.{row_told}
+use Rattle.parser.specs.declared.row.Row.{Row}
+use Rattle.ast_mapping.specs.View.{RowRead, span_of, spans_from, strings_of, node_at, number, children, Stands, Held, Tabled}
+use Rattle.ast_mapping.specs.declared.tree.TreeNode.{TreeNode}
+use Rattle.ast_mapping.specs.declared.mapping.Refusal.{Refusal as Told}
+use Rattle.ast_mapping.specs.Steps.{expected_kind, refusal_told, fields_used, kind_refused, ListChecked}
+use Rattle.ast_mapping.proofs.View.{row_read, no-string, Begins, all, less, begins-none, Child, next-child, last-child, tabled, tabled-row, tabled-small}
+use Rattle.ast_mapping.proofs.Parts.{refuses}
 
 spans-more : (w : Words) (k n : ℕ) → spans_from w n k ++ (span_of w (n + k) ∷ []) ≡ spans_from w n (suc k)
 spans-more w zero n = rw add-zero
@@ -37,15 +42,6 @@ module _ (a k : ℕ) where
 
   row-counted : {m : ℕ} → m ≡ k → (a + k ≡ a + m) × (m + 1 ≡ suc k)
   row-counted e = (omega arith, omega arith)
-
-pub tabled : (w : Words) (x : Text) (n : ℕ) → Held w x n → Tabled w n
-tabled w x n h = record { begun = later w x n h; few = omega (arith, past w x n h, h.small); ended = omega (arith, past w x n h, within w x n h) }
-
-pub tabled-row : {w : Words} {n : ℕ} → Tabled w n → (i : ℕ) → i < word w n 7 → row_words * suc i ≤ length w
-tabled-row t i h = omega (arith, t.ended)
-
-pub tabled-small : {w : Words} {n : ℕ} → Tabled w n → (i : ℕ) → i < word w n 7 → i < max_nodes
-tabled-small t i h = omega (arith, t.few)
 
 module _ (w : Words) (x : Text) where
   string-node : (m : Node Span) → Stands m w x → word w (number m) 0 ≡ string_kind → m ≡ leaf (number m) (span_of w (number m))
@@ -89,7 +85,7 @@ module _ (w : Words) (x : Text) where
     no-array (branch n function bytes ns) h k = refl
 
     module _ (n : ℕ) (h : Held w x n) where
-      pub wrong-array : (word w n 0 ≡ kind_number array → ⊥) → unexpected_type name (kind_number array) n ≡ string_array name (node_at w x n)
+      wrong-array : (word w n 0 ≡ kind_number array → ⊥) → unexpected_type name (kind_number array) n ≡ string_array name (node_at w x n)
       wrong-array =
           subst (λ (i : ℕ). (word w i 0 ≡ kind_number array → ⊥) → unexpected_type name (kind_number array) i ≡ string_array name (node_at w x n)) h.numbered
           (no-array (node_at w x n) h.stands)
@@ -126,17 +122,54 @@ module _ (w : Words) (x : Text) where
         passed l = passed-strings (next - suc n) (omega arith) (λ i a b. are i a (omega arith))
 
         -- and there are no more
-        pub all-strings : next ≡ word w n 7 → good (strings_of w n) ≡ string_array name (node_at w x n)
-        all-strings e =
+        strings-are : next ≡ word w n 7 → good (strings_of w n) ≡ string_array name (node_at w x n)
+        strings-are e =
             let s : Strings (next - suc n) = passed (omega arith) in
             let place : next ≡ suc n + sizes s.before = omega (arith, s.count) in
             let every : s.before ≡ children (node_at w x n) = last-child w x n h s.begins place (omega arith) in
             ap (λ (end : ℕ). good (spans_from w (suc n) (end - suc n))) (sym e) ∙ sym s.are ∙ ap (elements name) every ∙ sym (right-array kind)
 
         -- and the next is none
-        pub no-string-at : next < word w n 7 → (word w next 0 ≡ string_kind → ⊥) → unexpected_type name string_kind next ≡ string_array name (node_at w x n)
+        no-string-at : next < word w n 7 → (word w next 0 ≡ string_kind → ⊥) → unexpected_type name string_kind next ≡ string_array name (node_at w x n)
         unfolding elements
         no-string-at l d =
             let s : Strings (next - suc n) = passed (omega arith) in
             let c : Child w x n h s.before next = next-child w x n h s.begins (omega (arith, s.count)) l in
             sym (right-array kind ∙ elements-refuse c.begins (rw (s.are, other_at next c.is d)))
+
+-- ---- an array of strings that is validated, whose row was read
+
+module _ (e : TreeNode) (name : ℕ) (a : expected_kind name ≡ array) {row : Row} (k : RowRead e.table.now e.number.0 row) {kind : ℕ} (i : kind ≡ kind_number (expected_kind name)) where
+  list_tabled : Tabled e.table.now e.number.0
+  list_tabled = tabled e.table.now e.text.now e.number.0 e.held
+
+  pub no-list : {r : Told} → (row.kind ≡ kind → ⊥) → refusal_told r ≡ fields_used 7 name e.number.0 → ListChecked e name (Err r)
+  no-list h t =
+      refuses t
+      (ap (λ (c : Kind). unexpected_type name (kind_number c) e.number.0) a
+      ∙ wrong-array e.table.now e.text.now name e.number.0 e.held (λ f. h (k.kind ∙ f ∙ sym (i ∙ ap kind_number a))))
+      (tabled-small list_tabled e.number.0 list_tabled.begun)
+
+  module _ (h : row.kind ≡ kind) (next : ℕ) (first : e.number.0 + 1 ≤ next) (are : (i : ℕ) → e.number.0 + 1 ≤ i → i < next → word e.table.now i 0 ≡ string_kind) where
+    of-array : word e.table.now e.number.0 0 ≡ kind_number array
+    of-array = sym k.kind ∙ h ∙ i ∙ ap kind_number a
+
+    pub all-strings : row.past.0 ≤ next → (e.number.0 + 1 ≤ row.past.0 → next ≤ row.past.0) → ListChecked e name (Ok tt)
+    all-strings l m =
+        let end : next ≤ row.past.0 = m (omega (arith, k.past, list_tabled.begun)) in
+        record {
+          is = strings-are e.table.now e.text.now name e.number.0 e.held of-array next (omega arith) (λ i a b. are i (omega arith) b) (omega (arith, k.past));
+          inside = tt;
+        }
+
+    -- the next element
+    module _ (more : next < row.past.0) {element : Row} (r : row_told element ≡ row_at e.table.now next) where
+      element-read : RowRead e.table.now next element
+      element-read = row_read r (tabled-row list_tabled next (omega (arith, k.past)))
+
+      pub no-string-there : {t : Told} → (element.kind ≡ string_kind → ⊥) → refusal_told t ≡ kind_refused name string_kind next → ListChecked e name (Err t)
+      no-string-there f t =
+          refuses t
+          (no-string-at e.table.now e.text.now name e.number.0 e.held of-array next (omega arith) (λ i l m. are i (omega arith) m) (omega (arith, k.past))
+          (λ g. f (element-read.kind ∙ g)))
+          (tabled-small list_tabled next (omega (arith, k.past)))

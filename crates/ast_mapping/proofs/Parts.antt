@@ -1,266 +1,99 @@
 -- What the larger steps of the mapping come to in the definitions, where their parts have answered. Assumes nothing.
 use mathlib.Core.Path.{◌≡◌, refl, sym, ap, subst, ◌∙◌}
-use Prim.Native.Nat.{ℕ, ◌<◌}
+use Prim.Native.Nat.{ℕ, suc, ◌+◌, ◌<◌}
 use native.Mathlib.Omega.{arith}
-use lib.Dec.{lit<}
+use Rattle.std.specs.Prelude.{Option, Some, None, Result, Ok, Err, IsErrAnd}
 use Rattle.cel_text.specs.Byte.{Text}
-use Rattle.cel_text.specs.Tree.{object}
 use Rattle.cel_text.specs.Reading.{max_nodes}
-use Rattle.cel_text.specs.Table.{Words, word}
+use Rattle.cel_text.specs.Table.{Words}
 use Rattle.cel_text.proofs.Laws.Limit.{clash}
-use Rattle.cel_policy.specs.Names.{ValidationArgs, Certification, RequestCertification}
 use Rattle.cel_policy.specs.Policy.{Span}
-use Rattle.cel_policy.specs.Mapping.{Node, Nodes, childless, ◌▹◌∶◌, Refusal, good, bad, and_then, exactly_one, typed, lookup, present, headers_of, list_of, response_lists, response_part}
-use Rattle.cel_policy.specs.Mapping.{list_at, request_lists, request_of, request_part, certified, certification_parts, certification_of, validation_args, first_of, first_child, mapping}
-use Rattle.cel_policy.proofs.Laws.Natural.{over_mapped, over_only}
+use Rattle.cel_policy.specs.Mapping.{Node, Nodes, childless, ◌▹◌∶◌, Refusal, Mapped, good, bad, and_then, missing_parameter, missing_property, exactly_one, lookup, string_array, first_child, first_of, certified}
 use Rattle.parser.specs.declared.Node.{Node as Numbered}
-use Rattle.ast_mapping.specs.View.{strings_of, node_at, children, typed_at, Held, Tabled}
-use Rattle.ast_mapping.specs.Steps.{found_as, numbered, FoundIf, OnlyIf, Looked, refusal_told, fields_used, SmallNode, Checked, ListChecked, only_as, Listing, HeadersFound}
-use Rattle.ast_mapping.specs.Steps.{Requested, Responded, request_as, RequestIn, certified_as, mapped_as, MappedIn, Maps}
-use Rattle.ast_mapping.specs.declared.row.Found.{Found}
-use Rattle.ast_mapping.specs.declared.row.Found.TheVariants.{At, Nothing}
+use Rattle.parser.specs.declared.row.Row.{Row}
+use Rattle.ast_mapping.specs.declared.tree.TreeNode.{TreeNode}
 use Rattle.ast_mapping.specs.declared.mapping.Refusal.{Refusal as Told}
-use Rattle.ast_mapping.specs.declared.mapping.Check.TheVariants as check
 use Rattle.ast_mapping.specs.declared.mapping.Only.{Only as Which}
-use Rattle.ast_mapping.specs.declared.mapping.Only.TheVariants as which
-use Rattle.ast_mapping.specs.declared.mapping.Listed.TheVariants as listed
-use Rattle.ast_mapping.specs.declared.mapping.Headers.{Headers}
-use Rattle.ast_mapping.specs.declared.mapping.Headers.TheVariants as headers
+use Rattle.ast_mapping.specs.declared.mapping.Only.TheVariants.{First, Second}
 use Rattle.ast_mapping.specs.declared.mapping.Request.{Request as Asked}
-use Rattle.ast_mapping.specs.declared.mapping.Request.TheVariants as asked
-use Rattle.ast_mapping.specs.declared.mapping.Mapped.{Mapped as Told-policy}
-use Rattle.ast_mapping.specs.declared.mapping.Mapped.TheVariants as policy
-use Rattle.ast_mapping.proofs.View.{Begins, all, less, begins-none, few, later, Child, next-child, last-child}
-use Rattle.ast_mapping.proofs.Lists.{tabled}
+use Rattle.ast_mapping.specs.View.{RowRead, node_at, children, Held}
+use Rattle.ast_mapping.specs.Steps.{node_of, With, Looked, refusal_told, fields_used, given_as, Gives, found_as, FoundIf, only_as, OnlyIf, ListChecked, list_of, ListIn}
+use Rattle.ast_mapping.specs.Steps.{request_as, RequestIn, certified_as, Maps}
+use Rattle.ast_mapping.proofs.View.{few, tabled, later, Begins, all, less, begins-none, Child, next-child, last-child}
 
--- ---- refusals
+-- what a refusal that was told gives
+pub refuses : {A B : Type 0} {f : A → B} {P : A → Type 0} {m : Mapped B} {r : Told} {t : Refusal} → refusal_told r ≡ t → bad t ≡ m → t.node < max_nodes → Gives f P (Err r) m
+refuses e h l = record { is = ap bad e ∙ h; inside = subst (λ (n : ℕ). n < max_nodes) (sym (ap (λ (t : Refusal). t.node) e)) l }
 
--- the node of a refusal that was told
-pub small_of : {r : Told} {f : Refusal} → refusal_told r ≡ f → f.node < max_nodes → SmallNode r
-small_of e = subst (λ (n : ℕ). n < max_nodes) (sym (ap (λ (f : Refusal). f.node) e))
+-- ---- a step, and the step after it
+
+-- a refusal of the last step
+pub halts : {A B C : Type 0} {f : A → B} {P : A → Type 0} {m : Mapped B} {g : C → B} {Q : C → Type 0} {d : Told} {r : Result C Told}
+    → Gives f P (Err d) m → IsErrAnd r (λ e. e ≡ d) → Gives g Q r m
+halts {r = Ok c} h i = absurd i
+halts {r = Err e} h i = rw i (record { is = h.is; inside = h.inside })
+
+module _ {A B : Type 0} {f : A → B} {P : A → Type 0} {m : Mapped B} {C D : Type 0} {g : C → D} {Q : C → Type 0} (k : B → Mapped D) where
+  -- a refusal is that of both
+  pub stops : {d : Told} {r : Result C Told} → Gives f P (Err d) m → IsErrAnd r (λ e. e ≡ d) → Gives g Q r (and_then m k)
+  stops {r = Ok c} h i = absurd i
+  stops {r = Err e} h i = rw i (record { is = ap (λ (m : Mapped B). and_then m k) h.is; inside = h.inside })
+
+  -- and else the later step gives what both do
+  pub goes_on : {a : A} {r : Result C Told} → Gives f P (Ok a) m → Gives g Q r (k (f a)) → Gives g Q r (and_then m k)
+  goes_on h i = record { is = i.is ∙ ap (λ (m : Mapped B). and_then m k) h.is; inside = i.inside }
 
 -- ---- exactly one
 
-only-over : {B : Type 0} (f : ℕ → B) (r : Which) → only_as f r ≡ over_mapped (over_only f) (only_as numbered r)
-only-over f (which.First m) = refl
-only-over f (which.Second m) = refl
-only-over f (which.Refused r) = refl
-
-exactly-over : {B : Type 0} (f : ℕ → B) (both neither n : ℕ) (a b : Found)
-    → over_mapped (over_only f) (exactly_one both neither n (found_as numbered a) (found_as numbered b)) ≡ exactly_one both neither n (found_as f a) (found_as f b)
-exactly-over f both neither n (At a) (At b) = refl
-exactly-over f both neither n (At a) Nothing = refl
-exactly-over f both neither n Nothing (At b) = refl
-exactly-over f both neither n Nothing Nothing = refl
-
-pub only-as : {B : Type 0} (f : ℕ → B) (both neither n : ℕ) (a b : Found) (r : Which)
-    → only_as numbered r ≡ exactly_one both neither n (found_as numbered a) (found_as numbered b)
-    → only_as f r ≡ exactly_one both neither n (found_as f a) (found_as f b)
-only-as f both neither n a b r e = only-over f r ∙ ap (over_mapped (over_only f)) e ∙ exactly-over f both neither n a b
-
--- what holds of both holds of the one, and a refusal is the object's
-pub only_if : (P : ℕ → Type 0) (both neither n : ℕ) (a b : Found) (r : Which) → n < max_nodes
-    → only_as numbered r ≡ exactly_one both neither n (found_as numbered a) (found_as numbered b) → FoundIf P a → FoundIf P b → OnlyIf P r
-only_if P both neither n (At a) (At b) (which.Refused r) h e p q =
-    let z : refusal_told r ≡ record { refusal = both; name = 0; kind = 0; node = n } = cc in small_of z h
-only_if P both neither n (At a) Nothing (which.Refused r) h e p q = clash (cc)
-only_if P both neither n Nothing (At b) (which.Refused r) h e p q = clash (cc)
-only_if P both neither n Nothing Nothing (which.Refused r) h e p q =
-    let z : refusal_told r ≡ record { refusal = neither; name = 0; kind = 0; node = n } = cc in small_of z h
-only_if P both neither n (At a) (At b) (which.First m) h e p q = clash (cc)
-only_if P both neither n (At a) Nothing (which.First m) h e p q = let z : a.0 ≡ m.0 = cc in subst P z p
-only_if P both neither n Nothing (At b) (which.First m) h e p q = clash (cc)
-only_if P both neither n Nothing Nothing (which.First m) h e p q = clash (cc)
-only_if P both neither n (At a) (At b) (which.Second m) h e p q = clash (cc)
-only_if P both neither n (At a) Nothing (which.Second m) h e p q = clash (cc)
-only_if P both neither n Nothing (At b) (which.Second m) h e p q = let z : b.0 ≡ m.0 = cc in subst P z q
-only_if P both neither n Nothing Nothing (which.Second m) h e p q = clash (cc)
+pub chosen : {A B : Type 0} (h : A → B) (P : A → Type 0) (both neither n : ℕ) (f g : Option A) (r : Result (Which A) Told)
+    → given_as (only_as (λ a. a)) r ≡ exactly_one both neither n (found_as (λ a. a) f) (found_as (λ a. a) g)
+    → n < max_nodes → FoundIf P f → FoundIf P g → Gives (only_as h) (OnlyIf P) r (exactly_one both neither n (found_as h f) (found_as h g))
+chosen h P both neither n (Some a) (Some b) (Ok s) e l p q = clash (cc)
+chosen h P both neither n (Some a) (Some b) (Err d) e l p q =
+    let t : refusal_told d ≡ record { refusal = both; name = 0; kind = 0; node = n } = cc in refuses t refl l
+chosen h P both neither n (Some a) None (Ok (First c)) e l p q = let t : c ≡ a = cc in record { is = rw t; inside = rw t p }
+chosen h P both neither n (Some a) None (Ok (Second c)) e l p q = clash (cc)
+chosen h P both neither n (Some a) None (Err d) e l p q = clash (cc)
+chosen h P both neither n None (Some b) (Ok (First c)) e l p q = clash (cc)
+chosen h P both neither n None (Some b) (Ok (Second c)) e l p q = let t : c ≡ b = cc in record { is = rw t; inside = rw t q }
+chosen h P both neither n None (Some b) (Err d) e l p q = clash (cc)
+chosen h P both neither n None None (Ok s) e l p q = clash (cc)
+chosen h P both neither n None None (Err d) e l p q =
+    let t : refusal_told d ≡ record { refusal = neither; name = 0; kind = 0; node = n } = cc in refuses t refl l
 
 -- ---- the two parts of a policy
 
-certified-as : (w : Words) (q : Asked) (l : Which)
-    → mapped_as w (certified_as q l) ≡ and_then (request_as w q) (λ r. and_then (only_as (strings_of w) l) (λ k. good (certified r k)))
-certified-as w asked.Absent (which.First l) = refl
-certified-as w asked.Absent (which.Second l) = refl
-certified-as w asked.Absent (which.Refused r) = refl
-certified-as w (asked.Lists h q) (which.First l) = refl
-certified-as w (asked.Lists h q) (which.Second l) = refl
-certified-as w (asked.Lists h q) (which.Refused r) = refl
-certified-as w (asked.Refused r) l = refl
+module _ (w : Words) where
+  pub certified-gives : (q : Option Asked) (l : Which Numbered) → FoundIf (RequestIn w) q → OnlyIf (ListIn w) l
+      → Maps w (Ok (certified_as q l)) (good (certified (found_as (request_as w) q) (only_as (list_of w) l)))
+  certified-gives None (First l) h k = record { is = refl; inside = k }
+  certified-gives None (Second l) h k = record { is = refl; inside = k }
+  certified-gives (Some q) (First l) h k = record { is = refl; inside = (h, k) }
+  certified-gives (Some q) (Second l) h k = record { is = refl; inside = (h, k) }
 
-certified-in : (w : Words) (q : Asked) (l : Which) → RequestIn w q → OnlyIf (Tabled w) l → MappedIn w (certified_as q l)
-certified-in w asked.Absent (which.First l) h k = k
-certified-in w asked.Absent (which.Second l) h k = k
-certified-in w asked.Absent (which.Refused r) h k = k
-certified-in w (asked.Lists h q) (which.First l) a k = (a.0, a.1, k)
-certified-in w (asked.Lists h q) (which.Second l) a k = (a.0, a.1, k)
-certified-in w (asked.Lists h q) (which.Refused r) a k = k
-certified-in w (asked.Refused r) l h k = h
+-- ---- nodes that were found
 
-module _ (w : Words) (x : Text) (n : ℕ) where
-  -- ---- a list of strings that has to be there
+pub small : (e : TreeNode) → e.number.0 < max_nodes
+small e = few e.table.now e.text.now e.number.0 e.held
 
-  module _ (name : ℕ) where
-    pub list-missing : {r : Told} → n < max_nodes → Looked w x n name Nothing → refusal_told r ≡ fields_used 10 name n → Listing w x n name (listed.Refused r)
-    unfolding list_at present
-    list-missing h l e = record { is = rw (sym l.found) (ap bad e); inside = small_of e h }
-
-    pub list-wrong : {m : Numbered} {r : Told} → Looked w x n name (At m) → ListChecked w m.0 name (check.Refused r) → Listing w x n name (listed.Refused r)
-    unfolding list_at present
-    list-wrong l k = record { is = rw (sym l.found) (k.is x l.held); inside = k.inside }
-
-    pub list_right : {m : Numbered} → Looked w x n name (At m) → ListChecked w m.0 name check.Right → Listing w x n name (listed.At m)
-    unfolding list_at present
-    list_right {m} l k = record { is = rw (sym l.found) (k.is x l.held); inside = tabled w x m.0 l.held }
-
-    -- ---- a list of strings that may be absent
-
-    abbrev pub Wanted : Headers → Type 0
-    Wanted r = HeadersFound w r (list_of name (lookup name (children (node_at w x n))))
-
-    pub headers-none : Looked w x n name Nothing → Wanted (headers.Good Nothing)
-    unfolding list_of
-    headers-none l = record { is = rw (sym l.found); inside = tt }
-
-    module _ {m : Numbered} (l : Looked w x n name (At m)) where
-      pub headers-untyped : {r : Told} → Checked w x m.0 15 (check.Refused r) → Wanted (headers.Refused r)
-      unfolding list_of
-      headers-untyped t = record { is = rw (sym l.found, sym t.is); inside = t.inside }
-
-      module _ (t : Checked w x m.0 15 check.Right) where
-        pub headers-empty : Looked w x m.0 16 Nothing → Wanted (headers.Good Nothing)
-        unfolding list_of headers_of
-        headers-empty k = record { is = rw (sym l.found, sym t.is, sym k.found); inside = tt }
-
-        module _ {i : Numbered} (k : Looked w x m.0 16 (At i)) where
-          pub headers-wrong : {r : Told} → ListChecked w i.0 name (check.Refused r) → Wanted (headers.Refused r)
-          unfolding list_of headers_of
-          headers-wrong e = record { is = rw (sym l.found, sym t.is, sym k.found, sym (e.is x k.held)); inside = e.inside }
-
-          pub headers-right : ListChecked w i.0 name check.Right → Wanted (headers.Good (At i))
-          unfolding list_of headers_of
-          headers-right e =
-              record { is = rw (sym l.found, sym t.is, sym k.found, sym (e.is x k.held)); inside = tabled w x i.0 k.held }
-
-  -- ---- the request part
-
-  abbrev pub Lists : Asked → Type 0
-  Lists r = Requested w r (and_then (typed object RequestCertification (node_at w x n)) request_lists)
-
-  pub request-untyped : {r : Told} → Checked w x n 8 (check.Refused r) → Lists (asked.Refused r)
-  request-untyped t = record { is = rw (sym t.is); inside = t.inside }
-
-  module _ (t : Checked w x n 8 check.Right) where
-    pub request-first : {r : Told} → Listing w x n 9 (listed.Refused r) → Lists (asked.Refused r)
-    unfolding request_lists
-    request-first l = record { is = rw (sym t.is, sym l.is); inside = l.inside }
-
-    module _ {h : Numbered} (l : Listing w x n 9 (listed.At h)) where
-      pub request-second : {r : Told} → Listing w x n 10 (listed.Refused r) → Lists (asked.Refused r)
-      unfolding request_lists
-      request-second k = record { is = rw (sym t.is, sym l.is, sym k.is); inside = k.inside }
-
-      pub request-both : {q : Numbered} → Listing w x n 10 (listed.At q) → Lists (asked.Lists h q)
-      unfolding request_lists
-      request-both k = record { is = rw (sym t.is, sym l.is, sym k.is); inside = (l.inside, k.inside) }
+module _ (e : TreeNode) where
+  -- a key that is missing
+  pub missing : {name : ℕ} {A B : Type 0} {f : A → B} {P : A → Type 0} {d : Told} → refusal_told d ≡ fields_used 10 name e.number.0 → Gives f P (Err d) (missing_property name e.number.0)
+  missing t = refuses t refl (small e)
 
   -- which of two keys is there
-  pub record Chosen (both neither a b : ℕ) (r : Which) : Type 0 where
-    pub is : only_as (node_at w x) r ≡ exactly_one both neither n (lookup a (children (node_at w x n))) (lookup b (children (node_at w x n)))
-    pub held : OnlyIf (Held w x) r
+  pub picked : {a b : ℕ} {f g : Option TreeNode} (both neither : ℕ) {r : Result (Which TreeNode) Told} → Looked e a f → Looked e b g
+      → given_as (only_as (λ a. a)) r ≡ exactly_one both neither e.number.0 (found_as (λ a. a) f) (found_as (λ a. a) g)
+      → Gives (only_as node_of) (OnlyIf (With e.table.now)) r (exactly_one both neither e.number.0 (lookup a (children (node_of e))) (lookup b (children (node_of e))))
+  picked {f = f} {g = g} both neither {r = r} l k h = rw (sym l.found, sym k.found) (chosen node_of (With e.table.now) both neither e.number.0 f g r h (small e) l.same k.same)
 
-  pub chosen : (both neither : ℕ) {a b : ℕ} {f g : Found} → Held w x n → Looked w x n a f → Looked w x n b g → (r : Which)
-      → only_as numbered r ≡ exactly_one both neither n (found_as numbered f) (found_as numbered g) → Chosen both neither a b r
-  chosen both neither {a} {b} {f} {g} h l k r e =
-      record {
-        is = only-as (node_at w x) both neither n f g r e ∙ cc (l.found, k.found);
-        held = only_if (Held w x) both neither n f g r (few w x n h) e l.held k.held;
-      }
+-- what is given in a table is given in the same table
+pub moved : {A B : Type 0} (f : Words → A → B) (P : Words → A → Type 0) {w w' : Words} {r : Result A Told} {m : Mapped B} → w' ≡ w → Gives (f w') (P w') r m → Gives (f w) (P w) r m
+moved f P {r = r} {m = m} = subst (λ (v : Words). Gives (f v) (P v) r m)
 
-  abbrev pub RequestPart : Asked → Type 0
-  RequestPart r = Requested w r (request_part (typed_at w x n))
-
-  pub request-absent : {m : Numbered} → Chosen 13 14 6 7 (which.First m) → RequestPart asked.Absent
-  unfolding request_part request_of
-  request-absent c = record { is = rw (sym c.is); inside = tt }
-
-  pub request-refused : {r : Told} → Chosen 13 14 6 7 (which.Refused r) → RequestPart (asked.Refused r)
-  unfolding request_part
-  request-refused c = record { is = rw (sym c.is); inside = c.held }
-
-  pub request-present : {m : Numbered} {r : Asked} → Chosen 13 14 6 7 (which.Second m)
-      → Requested w r (and_then (typed object RequestCertification (node_at w x m.0)) request_lists) → RequestPart r
-  unfolding request_part request_of
-  request-present c l = record { is = l.is ∙ rw (sym c.is); inside = l.inside }
-
-  -- ---- the response part
-
-  abbrev pub ResponsePart : Which → Type 0
-  ResponsePart r = Responded w r (response_part (typed_at w x n))
-
-  pub response-missing : {r : Told} → n < max_nodes → Looked w x n 11 Nothing → refusal_told r ≡ fields_used 10 11 n → ResponsePart (which.Refused r)
-  unfolding response_part present
-  response-missing h l e = record { is = rw (sym l.found) (ap bad e); inside = small_of e h }
-
-  module _ {m : Numbered} (l : Looked w x n 11 (At m)) where
-    pub response-untyped : {r : Told} → Checked w x m.0 12 (check.Refused r) → ResponsePart (which.Refused r)
-    unfolding response_part present
-    response-untyped t = record { is = rw (sym l.found, sym t.is); inside = t.inside }
-
-    module _ (t : Checked w x m.0 12 check.Right) where
-      abbrev At-key : ℕ → Headers → Type 0
-      At-key name r = HeadersFound w r (list_of name (lookup name (children (node_at w x m.0))))
-
-      pub response-first : {r : Told} → At-key 13 (headers.Refused r) → ResponsePart (which.Refused r)
-      unfolding response_part present response_lists
-      response-first h = record { is = rw (sym l.found, sym t.is, sym h.is); inside = h.inside }
-
-      module _ {f : Found} (h : At-key 13 (headers.Good f)) where
-        pub response-second : {r : Told} → At-key 14 (headers.Refused r) → ResponsePart (which.Refused r)
-        unfolding response_part present response_lists
-        response-second k = record { is = rw (sym l.found, sym t.is, sym h.is, sym k.is); inside = k.inside }
-
-        pub response-one : {g : Found} → At-key 14 (headers.Good g) → (r : Which)
-            → only_as numbered r ≡ exactly_one 15 16 m.0 (found_as numbered f) (found_as numbered g) → ResponsePart r
-        unfolding response_part present response_lists
-        response-one {g} k r e =
-            record {
-              is = only-as (strings_of w) 15 16 m.0 f g r e ∙ rw (sym l.found, sym t.is, sym h.is, sym k.is);
-              inside = only_if (Tabled w) 15 16 m.0 f g r (few w x m.0 l.held) e h.inside k.inside;
-            }
-
-  -- ---- the policy
-
-  abbrev pub Certified : Told-policy → Type 0
-  Certified r = Maps w r (and_then (typed object Certification (node_at w x n)) certification_parts)
-
-  pub certification-untyped : {r : Told} → Checked w x n 5 (check.Refused r) → Certified (policy.Refused r)
-  certification-untyped t = record { is = rw (sym t.is); inside = t.inside }
-
-  pub certification-parts : {q : Asked} {l : Which} → Checked w x n 5 check.Right → RequestPart q → ResponsePart l → Certified (certified_as q l)
-  unfolding certification_parts
-  certification-parts {q} {l} t h k =
-      record { is = certified-as w q l ∙ rw (sym t.is, sym h.is, sym k.is); inside = certified-in w q l h.inside k.inside }
-
-  abbrev pub Arguments : Told-policy → Type 0
-  Arguments r = Maps w r (and_then (typed object ValidationArgs (node_at w x n)) validation_args)
-
-  pub arguments-untyped : {r : Told} → Checked w x n 2 (check.Refused r) → Arguments (policy.Refused r)
-  arguments-untyped t = record { is = rw (sym t.is); inside = t.inside }
-
-  module _ (t : Checked w x n 2 check.Right) where
-    pub arguments-skip : {m : Numbered} → Chosen 11 12 3 4 (which.First m) → Arguments policy.Skip
-    unfolding validation_args certification_of
-    arguments-skip c = record { is = rw (sym t.is, sym c.is); inside = tt }
-
-    pub arguments-refused : {r : Told} → Chosen 11 12 3 4 (which.Refused r) → Arguments (policy.Refused r)
-    unfolding validation_args
-    arguments-refused c = record { is = rw (sym t.is, sym c.is); inside = c.held }
-
-    pub arguments-certified : {m : Numbered} {r : Told-policy} → Chosen 11 12 3 4 (which.Second m)
-        → Maps w r (and_then (typed object Certification (node_at w x m.0)) certification_parts) → Arguments r
-    unfolding validation_args certification_of
-    arguments-certified c k = record { is = k.is ∙ rw (sym t.is, sym c.is); inside = k.inside }
+-- a list that was validated, in the table of the object that has it
+pub listed : {w : Words} (m : TreeNode) (name : ℕ) → With w m → ListChecked m name (Ok tt) → Gives (list_of w) (ListIn w) (Ok m.number) (string_array name (node_of m))
+listed m name s k = moved list_of ListIn s (record { is = k.is; inside = tabled m.table.now m.text.now m.number.0 m.held })
 
 -- ---- the root
 
@@ -269,25 +102,21 @@ unfolding first_child first_of
 first-begins node all = refl
 first-begins node (less s) = first-begins node s
 
-module _ (w : Words) (x : Text) (h : Held w x 0) where
-  pub map-untyped : {r : Told} → Checked w x 0 1 (check.Refused r) → Maps w (policy.Refused r) (mapping (node_at w x 0))
-  unfolding mapping
-  map-untyped t = record { is = rw (sym t.is); inside = t.inside }
+module _ (e : TreeNode) {row : Row} (k : RowRead e.table.now e.number.0 row) where
+  -- without an argument
+  pub bare : row.past.0 ≡ e.number.0 + 1 → missing_parameter e.number.0 ≡ first_child e.number.0 (children (node_of e))
+  unfolding first_child
+  bare l =
+      ap (first_child e.number.0)
+      (last-child e.table.now e.text.now e.number.0 e.held {next = suc e.number.0} (begins-none (children (node_of e))) (omega arith) (omega (arith, k.past)))
 
-  module _ (t : Checked w x 0 1 check.Right) where
-    pub map-bare : {r : Told} → word w 0 7 ≡ 1 → refusal_told r ≡ fields_used 9 2 0 → Maps w (policy.Refused r) (mapping (node_at w x 0))
-    unfolding mapping first_child
-    map-bare e k =
-        let none : childless ≡ children (node_at w x 0) = last-child w x 0 h {next = 1} (begins-none (children (node_at w x 0))) refl (omega arith) in
-        record { is = rw (sym t.is, sym none) (ap bad k); inside = small_of k (lit< tt) }
+  module _ (l : row.past.0 ≡ e.number.0 + 1 → ⊥) where
+    argument : Child e.table.now e.text.now e.number.0 e.held childless (suc e.number.0)
+    argument = next-child e.table.now e.text.now e.number.0 e.held (begins-none (children (node_of e))) (omega arith) (omega (arith, l, k.past, later e.table.now e.text.now e.number.0 e.held))
 
-    module _ (e : word w 0 7 ≡ 1 → ⊥) where
-      argument : Child w x 0 h childless 1
-      argument = next-child w x 0 h (begins-none (children (node_at w x 0))) refl (omega (arith, e, later w x 0 h))
+    pub argument-held : Held e.table.now e.text.now (suc e.number.0)
+    argument-held = argument.is
 
-      pub argument-held : Held w x 1
-      argument-held = argument.is
-
-      pub map-argument : {r : Told-policy} → Maps w r (and_then (typed object ValidationArgs (node_at w x 1)) validation_args) → Maps w r (mapping (node_at w x 0))
-      unfolding mapping first_child first_of
-      map-argument k = record { is = k.is ∙ rw (sym t.is, first-begins 0 argument.begins); inside = k.inside }
+    pub with-argument : good (node_at e.table.now e.text.now (suc e.number.0)) ≡ first_child e.number.0 (children (node_of e))
+    unfolding first_child first_of
+    with-argument = sym (first-begins e.number.0 argument.begins)

@@ -6,7 +6,7 @@ use native.Mathlib.Omega.{arith}
 use mathlib.Core.List.{[], ◌++◌, append-nil, append_assoc}
 use mathlib.Core.Option.{none, some}
 use lib.ListN.{length, take, drop, replicate, length-append, drop_of_length-le, take-append-drop}
-use lib.Seq.{sets, sets-eq, length-sets, length-take-le, take_all, take_at, drop_at, drop-append-le}
+use lib.Seq.{sets, sets-eq, length-sets, length-take-le, length_front, take_all, take_at, drop_at, drop-append-le}
 use borrow.Author.Tests.{lt-ltb, le-ltb, ne_eqb, le-leb}
 use Rattle.cel_text.specs.Byte.{Text}
 use Rattle.cel_text.specs.Tree.{Tree}
@@ -165,6 +165,12 @@ lent =
         let long' : length (sets s 0 rows) ≡ span_words = length-sets s 0 rows ∙ long in
         let none : length (sets s 0 rows) - span_words ≡ 0 = omega arith in
         rw (none, take_all span_words (sets s 0 rows) (omega arith), append-nil) (sets-eq rows s 0 fits ∙ ap (λ (n : ℕ). rows ++ drop n s) (zero-add (length rows)))
+
+-- the counted words, after those before the others were replaced
+pub counted_words : (w w' : Words) → length w' ≡ length (take span_words w) → span_words ≤ length w → span_words ≡ length (take span_words (w' ++ drop span_words w))
+counted_words w w' e h =
+    let room : span_words ≤ length (w' ++ drop span_words w) = omega (arith, length_front w w' span_words e) in
+    sym (length-take-le span_words (w' ++ drop span_words w) room)
 
 -- ---- reading a policy
 

@@ -20,21 +20,13 @@ use Rattle.cel_policy.proofs.Laws.Counts.{size-positive}
 use Rattle.parser.specs.Kinds.{kind_of}
 use Rattle.parser.specs.Rows.{row_told}
 use Rattle.parser.specs.declared.row.Row.{Row as Told-row}
-use Rattle.ast_mapping.specs.View.{node_from, nodes_from, node_at, number, children, Part, Stands, StandAll, Held}
+use Rattle.ast_mapping.specs.View.{RowRead, node_from, nodes_from, node_at, number, children, Part, Stands, StandAll, Held, Tabled}
 
 pub size-children : (m : Node Span) → size m ≡ suc (sizes (children m))
 size-children (leaf n a) = refl
 size-children (branch n c name ns) = refl
 
 -- ---- a row that was read
-
-pub record RowRead (w : Words) (n : ℕ) (r : Told-row) : Type 0 where
-  pub kind : r.kind ≡ word w n 0
-  pub from : r.from.0 ≡ word w n 1
-  pub to : r.to.0 ≡ word w n 2
-  pub keyfrom : r.keyfrom.0 ≡ word w n 3
-  pub keyto : r.keyto.0 ≡ word w n 4
-  pub past : r.past.0 ≡ word w n 7
 
 pub row_read : {w : Words} {n : ℕ} {r : Told-row} → row_told r ≡ row_at w n → row_words * suc n ≤ length w → RowRead w n r
 row_read {w} {n} {r} e h =
@@ -179,3 +171,12 @@ module _ (w : Words) (x : Text) where
     -- where the children end
     pub last-child : {b : Nodes Span} {next : ℕ} → Begins (children (node_at w x n)) b → next ≡ suc n + sizes b → word w n 7 ≤ next → b ≡ children (node_at w x n)
     last-child {b} {next} s e l = begins-all s (omega (arith, past, size-children (node_at w x n)))
+
+pub tabled : (w : Words) (x : Text) (n : ℕ) → Held w x n → Tabled w n
+tabled w x n h = record { begun = later w x n h; few = omega (arith, past w x n h, h.small); ended = omega (arith, past w x n h, within w x n h) }
+
+pub tabled-row : {w : Words} {n : ℕ} → Tabled w n → (i : ℕ) → i < word w n 7 → row_words * suc i ≤ length w
+tabled-row t i h = omega (arith, t.ended)
+
+pub tabled-small : {w : Words} {n : ℕ} → Tabled w n → (i : ℕ) → i < word w n 7 → i < max_nodes
+tabled-small t i h = omega (arith, t.few)

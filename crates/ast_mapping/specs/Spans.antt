@@ -39,9 +39,10 @@ counts_in (bad r) = no_policy
 abbrev pub few : Words → List Span → Type 0
 few s l = (2 * length l ≤ length s) × (length l ≤ max_nodes)
 
-pub record Put (m : Mapped (Policy Span)) (s s' : Words) (r : Numbers) : Type 0 where
-  pub rows : s' ≡ sets s 0 (span_rows (strings_in m))
-  pub counts : numbers r ≡ counts_in m
+-- the strings of a policy were written to the table s, and r has its numbers
+pub record Put (p : Policy Span) (s s' : Words) (r : Numbers) : Type 0 where
+  pub rows : s' ≡ sets s 0 (span_rows (all_strings p))
+  pub counts : numbers r ≡ counted p
 
 -- the first of the counted words that is to be set to 0 after a read: after the strings of a policy that is `end`
 abbrev pub spare_from : Left → (end : ℕ) → ℕ

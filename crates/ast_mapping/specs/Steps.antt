@@ -1,46 +1,50 @@
--- What the steps of the mapping answer, in the terms of `cel_policy`. A step that finds a node answers its number. Assumes nothing.
-use Rattle.std.specs.Prelude.{◌≡◌, ℕ, ◌<◌, cond, List, [], eqb, leb, ltb}
-use Rattle.std.proofs.Math.Option.{Option, none, some}
-use Rattle.cel_text.specs.Byte.{Text}
+-- What the steps of the mapping answer, in the terms of `cel_policy`. Assumes nothing.
+use Rattle.std.specs.Prelude.{◌≡◌, ℕ, ◌<◌, cond, List, [], eqb, leb, ltb, Option, Some, None, Result, Ok, Err, MatchResult, MatchOption}
+use Rattle.std.proofs.Math.Option.{Option as Maybe, none, some}
 use Rattle.cel_text.specs.Tree.{Kind, array, object, function}
 use Rattle.cel_text.specs.Reading.{max_nodes}
 use Rattle.cel_text.specs.Table.{Words, kind_number}
 use Rattle.cel_policy.specs.Names.{default_certification, certified_request_headers, certified_query_parameters, certified_response_headers, response_header_exclusions}
 use Rattle.cel_policy.specs.Policy.{Span, Policy, response_only, full, inclusions, exclusions}
-use Rattle.cel_policy.specs.Mapping.{Refusal, Mapped, good, bad, Request, Only, first, second, typed, lookup, string_array, list_at, skipped}
-use Rattle.ast_mapping.specs.View.{node_at, children, typed_at, strings_of, Held, Tabled}
-use Rattle.ast_mapping.specs.declared.row.Found.{Found}
-use Rattle.ast_mapping.specs.declared.row.Found.TheVariants.{At, Nothing}
+use Rattle.cel_policy.specs.Mapping.{Node, Refusal, Mapped, good, bad, Request, Only, first, second, Typed, typed, lookup, string_array, list_at, skipped}
+use Rattle.parser.specs.declared.Node.{Node as Numbered}
+use Rattle.ast_mapping.specs.View.{node_at, children, typed_at, strings_of, Tabled}
+use Rattle.ast_mapping.specs.declared.tree.TreeNode.{TreeNode}
 use Rattle.ast_mapping.specs.declared.mapping.Refusal.{Refusal as Told}
-use Rattle.ast_mapping.specs.declared.mapping.Check.{Check}
-use Rattle.ast_mapping.specs.declared.mapping.Check.TheVariants as check
 use Rattle.ast_mapping.specs.declared.mapping.Only.{Only as Which}
-use Rattle.ast_mapping.specs.declared.mapping.Only.TheVariants as which
-use Rattle.ast_mapping.specs.declared.mapping.Listed.{Listed}
-use Rattle.ast_mapping.specs.declared.mapping.Listed.TheVariants as listed
-use Rattle.ast_mapping.specs.declared.mapping.Headers.{Headers}
-use Rattle.ast_mapping.specs.declared.mapping.Headers.TheVariants as headers
+use Rattle.ast_mapping.specs.declared.mapping.Only.TheVariants.{First, Second}
 use Rattle.ast_mapping.specs.declared.mapping.Request.{Request as Asked}
-use Rattle.ast_mapping.specs.declared.mapping.Request.TheVariants as asked
+use Rattle.ast_mapping.specs.declared.mapping.Response.{Response}
+use Rattle.ast_mapping.specs.declared.mapping.ListKind.{ListKind}
+use Rattle.ast_mapping.specs.declared.mapping.ListKind.TheVariants.{Inclusions, Exclusions}
 use Rattle.ast_mapping.specs.declared.mapping.Mapped.{Mapped as Told-policy}
-use Rattle.ast_mapping.specs.declared.mapping.Mapped.TheVariants as policy
+use Rattle.ast_mapping.specs.declared.mapping.Mapped.TheVariants.{Skip, ResponseOnly, Full}
 
--- what was found, where f says what a number stands for
-abbrev pub found_as : {B : Type 0} → (ℕ → B) → Found → Option B
-found_as f (At m) = some (f m.0)
-found_as f Nothing = none
+-- ---- nodes
 
-abbrev pub numbered : ℕ → ℕ
-numbered n = n
+-- the node that is read back
+abbrev pub node_of : TreeNode → Node Span
+node_of e = node_at e.table.now e.text.now e.number.0
+
+abbrev pub typed_of : TreeNode → Typed Span
+typed_of e = typed_at e.table.now e.text.now e.number.0
+
+-- what was found, where f says what it stands for
+abbrev pub found_as : {A B : Type 0} → (A → B) → Option A → Maybe B
+found_as f (Some a) = some (f a)
+found_as f None = none
 
 -- P of what was found
-abbrev pub FoundIf : (ℕ → Type 0) → Found → Type 0
-FoundIf P (At m) = P m.0
-FoundIf P Nothing = Unit {0}
+abbrev pub FoundIf : {A : Type 0} → (A → Type 0) → Option A → Type 0
+FoundIf P r = MatchOption r (Unit {0}) P
 
-pub record Looked (w : Words) (x : Text) (n name : ℕ) (r : Found) : Type 0 where
-  pub found : found_as (node_at w x) r ≡ lookup name (children (node_at w x n))
-  pub held : FoundIf (Held w x) r
+-- the same table
+abbrev pub With : Words → TreeNode → Type 0
+With w m = m.table.now ≡ w
+
+pub record Looked (e : TreeNode) (name : ℕ) (r : Option TreeNode) : Type 0 where
+  pub found : found_as node_of r ≡ lookup name (children (node_of e))
+  pub same : FoundIf (With e.table.now) r
 
 -- ---- refusals
 
@@ -75,103 +79,101 @@ fields_used refusal name node =
 abbrev pub SmallNode : Told → Type 0
 SmallNode r = r.node.0 < max_nodes
 
--- ---- checks: a check that is passed gives b
+-- ---- steps
 
-abbrev pub check_as : {B : Type 0} → B → Check → Mapped B
-check_as b check.Right = good b
-check_as b (check.Refused r) = bad (refusal_told r)
+-- what a step gives, where f says what its value stands for
+abbrev pub given_as : {A B : Type 0} → (A → B) → Result A Told → Mapped B
+given_as f (Ok a) = good (f a)
+given_as f (Err r) = bad (refusal_told r)
 
-abbrev pub CheckIn : Check → Type 0
-CheckIn check.Right = Unit {0}
-CheckIn (check.Refused r) = SmallNode r
+-- a step gives m, where f says what its value stands for, and P holds of it
+pub record Gives {A B : Type 0} (f : A → B) (P : A → Type 0) (r : Result A Told) (m : Mapped B) : Type 0 where
+  pub is : given_as f r ≡ m
+  pub inside : MatchResult r P SmallNode
 
-pub record Checked (w : Words) (x : Text) (n name : ℕ) (r : Check) : Type 0 where
-  pub is : check_as (typed_at w x n) r ≡ typed (expected_kind name) name (node_at w x n)
-  pub inside : CheckIn r
+-- a check that is passed gives b
+abbrev pub Passes : {B : Type 0} → B → Result Unit Told → Mapped B → Type 0
+Passes b r m = Gives (λ _. b) (λ _. Unit {0}) r m
 
-pub record ListChecked (w : Words) (n name : ℕ) (r : Check) : Type 0 where
-  pub is : (x : Text) → Held w x n → check_as (strings_of w n) r ≡ string_array name (node_at w x n)
-  pub inside : CheckIn r
+abbrev pub Checked : TreeNode → (name : ℕ) → Result Unit Told → Type 0
+Checked e name r = Passes (typed_of e) r (typed (expected_kind name) name (node_of e))
 
-abbrev pub only_as : {B : Type 0} → (ℕ → B) → Which → Mapped (Only B)
-only_as f (which.First m) = good (first (f m.0))
-only_as f (which.Second m) = good (second (f m.0))
-only_as f (which.Refused r) = bad (refusal_told r)
+abbrev pub ListChecked : TreeNode → (name : ℕ) → Result Unit Told → Type 0
+ListChecked e name r = Passes (strings_of e.table.now e.number.0) r (string_array name (node_of e))
 
--- ---- lists of strings, by the numbers of their arrays, whose rows are in the table
+-- which of two, where f says what each stands for
+abbrev pub only_as : {A B : Type 0} → (A → B) → Which A → Only B
+only_as f (First a) = first (f a)
+only_as f (Second a) = second (f a)
 
-abbrev pub OnlyIf : (ℕ → Type 0) → Which → Type 0
-OnlyIf P (which.First m) = P m.0
-OnlyIf P (which.Second m) = P m.0
-OnlyIf P (which.Refused r) = SmallNode r
+abbrev pub OnlyIf : {A : Type 0} → (A → Type 0) → Which A → Type 0
+OnlyIf P (First a) = P a
+OnlyIf P (Second a) = P a
 
-abbrev pub listed_as : Words → Listed → Mapped (List Span)
-listed_as w (listed.At m) = good (strings_of w m.0)
-listed_as w (listed.Refused r) = bad (refusal_told r)
+-- ---- lists of strings, by the nodes of their arrays, whose rows are in the table
 
-abbrev pub ListedIn : Words → Listed → Type 0
-ListedIn w (listed.At m) = Tabled w m.0
-ListedIn w (listed.Refused r) = SmallNode r
+abbrev pub list_of : Words → Numbered → List Span
+list_of w m = strings_of w m.0
 
-pub record Listing (w : Words) (x : Text) (n name : ℕ) (r : Listed) : Type 0 where
-  pub is : listed_as w r ≡ list_at name (typed_at w x n)
-  pub inside : ListedIn w r
+abbrev pub ListIn : Words → Numbered → Type 0
+ListIn w m = Tabled w m.0
 
-abbrev pub headers_as : Words → Headers → Mapped (Option (List Span))
-headers_as w (headers.Good f) = good (found_as (strings_of w) f)
-headers_as w (headers.Refused r) = bad (refusal_told r)
+abbrev pub Listing : TreeNode → (name : ℕ) → Result Numbered Told → Type 0
+Listing e name r = Gives (list_of e.table.now) (ListIn e.table.now) r (list_at name (typed_of e))
 
-abbrev pub HeadersIn : Words → Headers → Type 0
-HeadersIn w (headers.Good f) = FoundIf (Tabled w) f
-HeadersIn w (headers.Refused r) = SmallNode r
+abbrev pub HeadersFound : TreeNode → Result (Option Numbered) Told → Mapped (Maybe (List Span)) → Type 0
+HeadersFound e r m = Gives (found_as (list_of e.table.now)) (FoundIf (ListIn e.table.now)) r m
 
-pub record HeadersFound (w : Words) (r : Headers) (m : Mapped (Option (List Span))) : Type 0 where
-  pub is : headers_as w r ≡ m
-  pub inside : HeadersIn w r
-
-abbrev pub request_as : Words → Asked → Mapped (Option (Request Span))
-request_as w asked.Absent = good none
-request_as w (asked.Lists h q) = good (some (record { request_headers = strings_of w h.0; query_parameters = strings_of w q.0 }))
-request_as w (asked.Refused r) = bad (refusal_told r)
+abbrev pub request_as : Words → Asked → Request Span
+request_as w q = record { request_headers = list_of w q.headers; query_parameters = list_of w q.query }
 
 abbrev pub RequestIn : Words → Asked → Type 0
-RequestIn w asked.Absent = Unit {0}
-RequestIn w (asked.Lists h q) = Tabled w h.0 × Tabled w q.0
-RequestIn w (asked.Refused r) = SmallNode r
+RequestIn w q = ListIn w q.headers × ListIn w q.query
 
-pub record Requested (w : Words) (r : Asked) (m : Mapped (Option (Request Span))) : Type 0 where
-  pub is : request_as w r ≡ m
-  pub inside : RequestIn w r
+-- a request part that is there, and one that may be absent
+abbrev pub RequestFound : TreeNode → Result Asked Told → Mapped (Maybe (Request Span)) → Type 0
+RequestFound e r m = Gives (λ q. some (request_as e.table.now q)) (RequestIn e.table.now) r m
 
-pub record Responded (w : Words) (r : Which) (m : Mapped (Only (List Span))) : Type 0 where
-  pub is : only_as (strings_of w) r ≡ m
-  pub inside : OnlyIf (Tabled w) r
+abbrev pub Requested : TreeNode → Result (Option Asked) Told → Mapped (Maybe (Request Span)) → Type 0
+Requested e r m = Gives (found_as (request_as e.table.now)) (FoundIf (RequestIn e.table.now)) r m
+
+abbrev pub Responded : TreeNode → Result (Which Numbered) Told → Mapped (Only (List Span)) → Type 0
+Responded e r m = Gives (only_as (list_of e.table.now)) (OnlyIf (ListIn e.table.now)) r m
 
 -- ---- the policy
 
-abbrev pub certified_as : Asked → Which → Told-policy
-certified_as asked.Absent (which.First l) = policy.ResponseOnly inclusions l
-certified_as asked.Absent (which.Second l) = policy.ResponseOnly exclusions l
-certified_as asked.Absent (which.Refused r) = policy.Refused r
-certified_as (asked.Lists h q) (which.First l) = policy.Full h q inclusions l
-certified_as (asked.Lists h q) (which.Second l) = policy.Full h q exclusions l
-certified_as (asked.Lists h q) (which.Refused r) = policy.Refused r
-certified_as (asked.Refused r) l = policy.Refused r
+abbrev pub list_number : ListKind → ℕ
+list_number Inclusions = inclusions
+list_number Exclusions = exclusions
 
-abbrev pub mapped_as : Words → Told-policy → Mapped (Policy Span)
-mapped_as w policy.Skip = good skipped
-mapped_as w (policy.ResponseOnly kind l) =
-    good (record { form = response_only; kind = kind; request_headers = []; query_parameters = []; response_headers = strings_of w l.0 })
-mapped_as w (policy.Full h q kind l) =
-    good (record { form = full; kind = kind; request_headers = strings_of w h.0; query_parameters = strings_of w q.0; response_headers = strings_of w l.0 })
-mapped_as w (policy.Refused r) = bad (refusal_told r)
+abbrev pub response_of : Which Numbered → Response
+response_of (First l) = record { kind = Inclusions; list = l }
+response_of (Second l) = record { kind = Exclusions; list = l }
+
+abbrev pub certified_as : Option Asked → Which Numbered → Told-policy
+certified_as None l = ResponseOnly (response_of l)
+certified_as (Some q) l = Full q (response_of l)
+
+abbrev pub policy_as : Words → Told-policy → Policy Span
+policy_as w Skip = skipped
+policy_as w (ResponseOnly l) =
+    record { form = response_only; kind = list_number l.kind; request_headers = []; query_parameters = []; response_headers = list_of w l.list }
+policy_as w (Full q l) =
+    record {
+      form = full;
+      kind = list_number l.kind;
+      request_headers = list_of w q.headers;
+      query_parameters = list_of w q.query;
+      response_headers = list_of w l.list;
+    }
 
 abbrev pub MappedIn : Words → Told-policy → Type 0
-MappedIn w policy.Skip = Unit {0}
-MappedIn w (policy.ResponseOnly kind l) = Tabled w l.0
-MappedIn w (policy.Full h q kind l) = Tabled w h.0 × Tabled w q.0 × Tabled w l.0
-MappedIn w (policy.Refused r) = SmallNode r
+MappedIn w Skip = Unit {0}
+MappedIn w (ResponseOnly l) = ListIn w l.list
+MappedIn w (Full q l) = RequestIn w q × ListIn w l.list
 
-pub record Maps (w : Words) (r : Told-policy) (m : Mapped (Policy Span)) : Type 0 where
-  pub is : mapped_as w r ≡ m
-  pub inside : MappedIn w r
+abbrev pub mapped_as : Words → Result Told-policy Told → Mapped (Policy Span)
+mapped_as w r = given_as (policy_as w) r
+
+abbrev pub Maps : Words → Result Told-policy Told → Mapped (Policy Span) → Type 0
+Maps w r m = Gives (policy_as w) (MappedIn w) r m

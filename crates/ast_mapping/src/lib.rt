@@ -5,8 +5,8 @@
 
 mod mapping;
 pub mod name;
-mod row;
 mod span;
+mod tree;
 
 ghost use Rattle.std.specs.Prelude.{◌≡◌, length};
 ghost use Rattle.cel_policy.specs.Policy.{no_policy};
@@ -49,6 +49,7 @@ pub fn read_policy(text: &[u8], nodes: &mut [u32], spans: &mut [u32]) -> PolicyA
 }
 
 // The same, but the words after an accepted tree's rows and after the strings of an accepted policy stay as lent.
+// Two functions: one over a reader that is passed in would state that reader's contract again, and choose between the two ends.
 pub fn read_over(text: &[u8], nodes: &mut [u32], spans: &mut [u32]) -> PolicyAnswer
     ensures answer { policy_told result ≡ policy_answer (length nodes.old) (length spans.old) text.now }
     ensures nodes { nodes.new ≡ policy_nodes_over text.now nodes.old spans.old }
@@ -72,8 +73,7 @@ fn map_tree(text: &[u8], tree: Answer, nodes: &[u32], spans: &mut [u32]) -> Poli
     requires spans_len { length spans.old ≡ span_words }
     ensures { TreeMapped text.now tree nodes.now spans.old spans.new result }
 {
-    let refusal = tree.refusal;
-    if refusal != ACCEPTED {
+    if tree.refusal != ACCEPTED {
         return without_policy(tree);
     }
     let mapped = mapping::map_cel_ast(text, nodes);
@@ -93,6 +93,6 @@ pub(crate) fn without_policy(answer: Answer) -> PolicyAnswer
 {
     PolicyAnswer {
         answer,
-        policy: span::no_policy(),
+        policy: Policy::default(),
     }
 }

@@ -4,10 +4,11 @@ ghost use Rattle.cel_text.specs.Tree.{array, object};
 ghost use Rattle.cel_text.specs.Table.{kind_number};
 ghost use Rattle.cel_policy.specs.Names.{ValidationArgs, Certification, RequestCertification};
 ghost use Rattle.cel_policy.specs.Mapping.{and_then, typed, lookup, exactly_one, request_lists, request_part, list_of, response_part, certification_parts, validation_args, mapping};
-ghost use Rattle.ast_mapping.specs.View.{node_at, children, typed_at, Held, Tabled};
-ghost use Rattle.ast_mapping.specs.Steps.{expected_kind, refusal_told, kind_refused, fields_used, found_as, numbered, only_as, Checked, ListChecked, Listing, Requested};
-ghost use Rattle.ast_mapping.specs.Steps.{HeadersFound, Responded, certified_as, Maps};
+ghost use Rattle.ast_mapping.specs.View.{node_at, children, Held};
+ghost use Rattle.ast_mapping.specs.Steps.{expected_kind, refusal_told, kind_refused, fields_used, node_of, typed_of, found_as, given_as, only_as, Checked, ListChecked, Listing};
+ghost use Rattle.ast_mapping.specs.Steps.{RequestFound, Requested, HeadersFound, Responded, certified_as, Maps};
 
+use crate::name;
 use crate::name::{
     CERTIFICATION, CERTIFICATION_OBJECT, CERTIFIED_QUERY_PARAMETERS, CERTIFIED_REQUEST_HEADERS,
     CERTIFIED_RESPONSE_HEADERS, DEFAULT_CERTIFICATION, HEADERS, NO_CERTIFICATION,
@@ -15,9 +16,7 @@ use crate::name::{
     RESPONSE_CERTIFICATION, RESPONSE_CERTIFICATION_OBJECT, RESPONSE_HEADER_EXCLUSIONS,
     RESPONSE_HEADER_LIST, VALIDATION_ARGS,
 };
-use crate::row::Found;
-use crate::{name, row};
-use cel_policy::{EXCLUSIONS, INCLUSIONS};
+use crate::tree::TreeNode;
 use parser::row::read_row;
 use parser::{
     ARRAY, EXTRANEOUS_REQUEST_CERTIFICATION_PROPERTY, EXTRANEOUS_RESPONSE_CERTIFICATION_PROPERTY,
@@ -25,7 +24,7 @@ use parser::{
     MISSING_OBJECT_PROPERTY, Node, OBJECT, STRING, UNEXPECTED_NODE_NAME, UNEXPECTED_NODE_TYPE,
 };
 
-// A refusal of 7 to 16: its number, the expected name and kind, and the node.
+// A refusal of 7 to 16: its number, the expected name and kind, and the node. Numbers and no enum: SPEC.md's, as the answer has them, and matched by ranges.
 #[derive(Clone, Copy)]
 pub(crate) struct Refusal {
     pub refusal: u32,
@@ -34,50 +33,40 @@ pub(crate) struct Refusal {
     pub node: Node,
 }
 
-// Whether a node is what it should be.
+// Which of two is there, where exactly one should be.
 #[derive(Clone, Copy)]
-pub(crate) enum Check {
-    Right,
-    Refused(Refusal),
+pub(crate) enum Only<T> {
+    First(T),
+    Second(T),
 }
 
-// Which of two nodes is there, where exactly one should be.
+// The request part: its two lists of strings.
 #[derive(Clone, Copy)]
-pub(crate) enum Only {
-    First(Node),
-    Second(Node),
-    Refused(Refusal),
+pub(crate) struct Request {
+    pub headers: Node,
+    pub query: Node,
 }
 
-// A list of strings that has to be there.
+// The kind of the response part's list.
 #[derive(Clone, Copy)]
-pub(crate) enum Listed {
-    At(Node),
-    Refused(Refusal),
+pub(crate) enum ListKind {
+    Inclusions,
+    Exclusions,
 }
 
-// A list of strings that may be absent.
+// The response part: its list of strings.
 #[derive(Clone, Copy)]
-pub(crate) enum Headers {
-    Good(Found),
-    Refused(Refusal),
+pub(crate) struct Response {
+    pub kind: ListKind,
+    pub list: Node,
 }
 
-// The request part: absent, or its two lists of strings.
-#[derive(Clone, Copy)]
-pub(crate) enum Request {
-    Absent,
-    Lists(Node, Node),
-    Refused(Refusal),
-}
-
-// What the mapping gives: a policy, by its list kind and its lists of strings, or a refusal.
+// A policy, by the nodes of its lists of strings.
 #[derive(Clone, Copy)]
 pub(crate) enum Mapped {
     Skip,
-    ResponseOnly(u32, Node),
-    Full(Node, Node, u32, Node),
-    Refused(Refusal),
+    ResponseOnly(Response),
+    Full(Request, Response),
 }
 
 // The kind that a name expects: a function, the lists of strings, and otherwise an object.
@@ -126,237 +115,196 @@ fn unexpected_type(name: u32, kind: u32, node: Node) -> Refusal
 }
 
 // A node with this name, and of the kind that it expects. Its kind comes before its name.
-fn validate_node(text: &[u8], table: &[u32], node: Node, name: u32) -> Check
-    requires { Held table.now text.now node.0 }
-    ensures { Checked table.now text.now node.0 name result }
+fn validate_node(node: &TreeNode, name: u32) -> Result<(), Refusal>
+    ensures { Checked node.now name result }
 {
-    let row = read_row(table, node);
+    let row = node.row();
     if row.kind != expected_kind(name) {
-        return Check::Refused(refused(UNEXPECTED_NODE_TYPE, name, node));
+        return Err(refused(UNEXPECTED_NODE_TYPE, name, node.number));
     }
-    if name::is_name(name::part(text, row.from, row.to), name) {
-        return Check::Right;
+    if !name::is_name(node.part(row.from, row.to), name) {
+        return Err(refused(UNEXPECTED_NODE_NAME, name, node.number));
     }
-    Check::Refused(refused(UNEXPECTED_NODE_NAME, name, node))
+    Ok(())
 }
 
 // An array of strings. As long as its elements are strings, their numbers follow one another.
-fn validate_string_array(table: &[u32], list: Node, name: u32) -> Check
-    requires { Tabled table.now list.0 × (expected_kind name ≡ array) }
-    ensures { ListChecked table.now list.0 name result }
+fn validate_string_array(list: &TreeNode, name: u32) -> Result<(), Refusal>
+    requires { expected_kind name ≡ array }
+    ensures { ListChecked list.now name result }
 {
-    let row = read_row(table, list);
+    let row = list.row();
     if row.kind != expected_kind(name) {
-        return Check::Refused(refused(UNEXPECTED_NODE_TYPE, name, list));
+        return Err(refused(UNEXPECTED_NODE_TYPE, name, list.number));
     }
-    let end = row.past;
-    let mut next = Node(list.0 + 1);
-    while next.0 < end.0 {
-        let element = read_row(table, next);
-        if element.kind != STRING {
-            return Check::Refused(unexpected_type(name, STRING, next));
+    for next in list.number.0 + 1..row.past.0 {
+        let element = Node(next);
+        if read_row(list.table, element).kind != STRING {
+            return Err(unexpected_type(name, STRING, element));
         }
-        next = Node(next.0 + 1);
     }
-    Check::Right
+    Ok(())
 }
 
 // One of two, in this object: else `both`, or the number after it where neither is there.
-fn exactly_one(first: Found, second: Found, both: u32, object: Node) -> Only
+fn exactly_one<T: Copy>(
+    first: Option<T>,
+    second: Option<T>,
+    both: u32,
+    object: Node,
+) -> Result<Only<T>, Refusal>
     requires { (11 ≤ both) × (both ≤ 15) }
-    ensures { only_as numbered result ≡ exactly_one both (both + 1) object.0 (found_as numbered first) (found_as numbered second) }
+    ensures { given_as (only_as (λ a. a)) result ≡ exactly_one both (both + 1) object.0 (found_as (λ a. a) first) (found_as (λ a. a) second) }
 {
-    match first {
-        Found::At(node) => match second {
-            Found::At(_) => Only::Refused(refused(both, 0, object)),
-            Found::Nothing => Only::First(node),
-        },
-        Found::Nothing => match second {
-            Found::At(node) => Only::Second(node),
-            Found::Nothing => Only::Refused(refused(both + 1, 0, object)),
-        },
+    match (first, second) {
+        (Some(_), Some(_)) => Err(refused(both, 0, object)),
+        (Some(one), None) => Ok(Only::First(one)),
+        (None, Some(one)) => Ok(Only::Second(one)),
+        (None, None) => Err(refused(both + 1, 0, object)),
     }
 }
 
 // The list of strings at this key of the object.
-fn string_list(text: &[u8], table: &[u32], object: Node, name: u32) -> Listed
-    requires { Held table.now text.now object.0 × (expected_kind name ≡ array) }
-    ensures { Listing table.now text.now object.0 name result }
+fn string_list(object: &TreeNode, name: u32) -> Result<Node, Refusal>
+    requires { expected_kind name ≡ array }
+    ensures { Listing object.now name result }
 {
-    let found = row::lookup(text, table, object, name);
-    let Found::At(list) = found else {
-        return Listed::Refused(refused(MISSING_OBJECT_PROPERTY, name, object));
+    let Some(list) = object.lookup(name) else {
+        return Err(refused(MISSING_OBJECT_PROPERTY, name, object.number));
     };
-    let check = validate_string_array(table, list, name);
-    if let Check::Refused(r) = check {
-        return Listed::Refused(r);
-    }
-    Listed::At(list)
+    validate_string_array(&list, name)?;
+    Ok(list.number)
 }
 
 // An object 8 with its two lists.
-fn request_lists(text: &[u8], table: &[u32], request: Node) -> Request
-    requires { Held table.now text.now request.0 }
-    ensures { Requested table.now result (and_then (typed object RequestCertification (node_at table.now text.now request.0)) request_lists) }
+fn request_lists(request: &TreeNode) -> Result<Request, Refusal>
+    ensures { RequestFound request.now result (and_then (typed object RequestCertification (node_of request.now)) request_lists) }
 {
-    let check = validate_node(text, table, request, REQUEST_CERTIFICATION_OBJECT);
-    if let Check::Refused(r) = check {
-        return Request::Refused(r);
-    }
-    let first = string_list(text, table, request, CERTIFIED_REQUEST_HEADERS);
-    let headers = match first {
-        Listed::At(list) => list,
-        Listed::Refused(r) => return Request::Refused(r),
-    };
-    let second = string_list(text, table, request, CERTIFIED_QUERY_PARAMETERS);
-    match second {
-        Listed::At(query) => Request::Lists(headers, query),
-        Listed::Refused(r) => Request::Refused(r),
-    }
+    validate_node(request, REQUEST_CERTIFICATION_OBJECT)?;
+    let headers = string_list(request, CERTIFIED_REQUEST_HEADERS)?;
+    let query = string_list(request, CERTIFIED_QUERY_PARAMETERS)?;
+    Ok(Request { headers, query })
 }
 
-fn validate_request_certification(text: &[u8], table: &[u32], certification: Node) -> Request
-    requires { Held table.now text.now certification.0 }
-    ensures { Requested table.now result (request_part (typed_at table.now text.now certification.0)) }
+// The request part of an object 5, where it has one.
+fn validate_request_certification(certification: &TreeNode) -> Result<Option<Request>, Refusal>
+    ensures { Requested certification.now result (request_part (typed_of certification.now)) }
 {
-    let no = row::lookup(text, table, certification, NO_REQUEST_CERTIFICATION);
-    let yes = row::lookup(text, table, certification, REQUEST_CERTIFICATION);
     let only = exactly_one(
-        no,
-        yes,
+        certification.lookup(NO_REQUEST_CERTIFICATION),
+        certification.lookup(REQUEST_CERTIFICATION),
         EXTRANEOUS_REQUEST_CERTIFICATION_PROPERTY,
-        certification,
-    );
+        certification.number,
+    )?;
     match only {
-        Only::First(_) => Request::Absent,
-        Only::Second(request) => request_lists(text, table, request),
-        Only::Refused(r) => Request::Refused(r),
+        Only::First(_) => Ok(None),
+        Only::Second(request) => Ok(Some(request_lists(&request)?)),
     }
 }
 
 // The strings under key `headers` of the list object at this key, where both keys are present.
-fn response_headers(text: &[u8], table: &[u32], object: Node, name: u32) -> Headers
-    requires { Held table.now text.now object.0 × (expected_kind name ≡ array) }
-    ensures { HeadersFound table.now result (list_of name (lookup name (children (node_at table.now text.now object.0)))) }
+fn response_headers(object: &TreeNode, name: u32) -> Result<Option<Node>, Refusal>
+    requires { expected_kind name ≡ array }
+    ensures { HeadersFound object.now result (list_of name (lookup name (children (node_of object.now)))) }
 {
-    let found = row::lookup(text, table, object, name);
-    let Found::At(list) = found else {
-        return Headers::Good(Found::Nothing);
+    let Some(list) = object.lookup(name) else {
+        return Ok(None);
     };
-    let check = validate_node(text, table, list, RESPONSE_HEADER_LIST);
-    if let Check::Refused(r) = check {
-        return Headers::Refused(r);
-    }
-    let inner = row::lookup(text, table, list, HEADERS);
-    let Found::At(headers) = inner else {
-        return Headers::Good(Found::Nothing);
+    validate_node(&list, RESPONSE_HEADER_LIST)?;
+    let Some(headers) = list.lookup(HEADERS) else {
+        return Ok(None);
     };
-    let strings = validate_string_array(table, headers, name);
-    if let Check::Refused(r) = strings {
-        return Headers::Refused(r);
-    }
-    Headers::Good(Found::At(headers))
+    validate_string_array(&headers, name)?;
+    Ok(Some(headers.number))
 }
 
-// Both lists are looked at before either is found to be one too many.
-fn validate_response_certification(text: &[u8], table: &[u32], certification: Node) -> Only
-    requires { Held table.now text.now certification.0 }
-    ensures { Responded table.now result (response_part (typed_at table.now text.now certification.0)) }
+// The response part of an object 5. Both lists are looked at before either is found to be one too many.
+fn validate_response_certification(certification: &TreeNode) -> Result<Only<Node>, Refusal>
+    ensures { Responded certification.now result (response_part (typed_of certification.now)) }
 {
-    let found = row::lookup(text, table, certification, RESPONSE_CERTIFICATION);
-    let Found::At(response) = found else {
-        return Only::Refused(refused(
+    let Some(response) = certification.lookup(RESPONSE_CERTIFICATION) else {
+        return Err(refused(
             MISSING_OBJECT_PROPERTY,
             RESPONSE_CERTIFICATION,
-            certification,
+            certification.number,
         ));
     };
-    let check = validate_node(text, table, response, RESPONSE_CERTIFICATION_OBJECT);
-    if let Check::Refused(r) = check {
-        return Only::Refused(r);
-    }
-    let first = response_headers(text, table, response, CERTIFIED_RESPONSE_HEADERS);
-    let included = match first {
-        Headers::Good(list) => list,
-        Headers::Refused(r) => return Only::Refused(r),
-    };
-    let second = response_headers(text, table, response, RESPONSE_HEADER_EXCLUSIONS);
-    match second {
-        Headers::Good(excluded) => exactly_one(
-            included,
-            excluded,
-            EXTRANEOUS_RESPONSE_CERTIFICATION_PROPERTY,
-            response,
-        ),
-        Headers::Refused(r) => Only::Refused(r),
-    }
+    validate_node(&response, RESPONSE_CERTIFICATION_OBJECT)?;
+    let included = response_headers(&response, CERTIFIED_RESPONSE_HEADERS)?;
+    let excluded = response_headers(&response, RESPONSE_HEADER_EXCLUSIONS)?;
+    exactly_one(
+        included,
+        excluded,
+        EXTRANEOUS_RESPONSE_CERTIFICATION_PROPERTY,
+        response.number,
+    )
 }
 
-// The policy of the two parts. A refusal of the request part comes first.
-fn certified(request: Request, response: Only) -> Mapped
+// The policy of the two parts.
+fn certified(request: Option<Request>, response: Only<Node>) -> Mapped
     ensures { result ≡ certified_as request response }
 {
+    let response = match response {
+        Only::First(list) => Response {
+            kind: ListKind::Inclusions,
+            list,
+        },
+        Only::Second(list) => Response {
+            kind: ListKind::Exclusions,
+            list,
+        },
+    };
     match request {
-        Request::Absent => match response {
-            Only::First(list) => Mapped::ResponseOnly(INCLUSIONS, list),
-            Only::Second(list) => Mapped::ResponseOnly(EXCLUSIONS, list),
-            Only::Refused(r) => Mapped::Refused(r),
-        },
-        Request::Lists(headers, query) => match response {
-            Only::First(list) => Mapped::Full(headers, query, INCLUSIONS, list),
-            Only::Second(list) => Mapped::Full(headers, query, EXCLUSIONS, list),
-            Only::Refused(r) => Mapped::Refused(r),
-        },
-        Request::Refused(r) => Mapped::Refused(r),
+        None => Mapped::ResponseOnly(response),
+        Some(request) => Mapped::Full(request, response),
     }
 }
 
 // An object 5 with its two parts.
-fn validate_certification(text: &[u8], table: &[u32], certification: Node) -> Mapped
-    requires { Held table.now text.now certification.0 }
-    ensures { Maps table.now result (and_then (typed object Certification (node_at table.now text.now certification.0)) certification_parts) }
+fn validate_certification(certification: &TreeNode) -> Result<Mapped, Refusal>
+    ensures { Maps certification.now.table.now result (and_then (typed object Certification (node_of certification.now)) certification_parts) }
 {
-    let check = validate_node(text, table, certification, CERTIFICATION_OBJECT);
-    if let Check::Refused(r) = check {
-        return Mapped::Refused(r);
-    }
-    let request = validate_request_certification(text, table, certification);
-    let response = validate_response_certification(text, table, certification);
-    certified(request, response)
+    validate_node(certification, CERTIFICATION_OBJECT)?;
+    let request = validate_request_certification(certification)?;
+    let response = validate_response_certification(certification)?;
+    Ok(certified(request, response))
 }
 
 // An object 2, and in it the policy.
-fn validate_arguments(text: &[u8], table: &[u32], arguments: Node) -> Mapped
-    requires { Held table.now text.now arguments.0 }
-    ensures { Maps table.now result (and_then (typed object ValidationArgs (node_at table.now text.now arguments.0)) validation_args) }
+fn validate_arguments(arguments: &TreeNode) -> Result<Mapped, Refusal>
+    ensures { Maps arguments.now.table.now result (and_then (typed object ValidationArgs (node_of arguments.now)) validation_args) }
 {
-    let check = validate_node(text, table, arguments, VALIDATION_ARGS);
-    if let Check::Refused(r) = check {
-        return Mapped::Refused(r);
-    }
-    let no = row::lookup(text, table, arguments, NO_CERTIFICATION);
-    let yes = row::lookup(text, table, arguments, CERTIFICATION);
-    let only = exactly_one(no, yes, EXTRANEOUS_VALIDATION_ARGS_PROPERTY, arguments);
+    validate_node(arguments, VALIDATION_ARGS)?;
+    let only = exactly_one(
+        arguments.lookup(NO_CERTIFICATION),
+        arguments.lookup(CERTIFICATION),
+        EXTRANEOUS_VALIDATION_ARGS_PROPERTY,
+        arguments.number,
+    )?;
     match only {
-        Only::First(_) => Mapped::Skip,
-        Only::Second(certification) => validate_certification(text, table, certification),
-        Only::Refused(r) => Mapped::Refused(r),
+        Only::First(_) => Ok(Mapped::Skip),
+        Only::Second(certification) => validate_certification(&certification),
     }
 }
 
 // The root is a function 1, its first argument an object 2.
-pub(crate) fn map_cel_ast(text: &[u8], table: &[u32]) -> Mapped
+pub(crate) fn map_cel_ast(text: &[u8], table: &[u32]) -> Result<Mapped, Refusal>
     requires { Held table.now text.now 0 }
     ensures { Maps table.now result (mapping (node_at table.now text.now 0)) }
 {
-    let root = Node(0);
-    let call = validate_node(text, table, root, DEFAULT_CERTIFICATION);
-    if let Check::Refused(r) = call {
-        return Mapped::Refused(r);
+    let root = TreeNode {
+        text,
+        table,
+        number: Node(0),
+    };
+    validate_node(&root, DEFAULT_CERTIFICATION)?;
+    if root.row().past.0 == 1 {
+        return Err(refused(MISSING_FUNCTION_PARAMETER, VALIDATION_ARGS, root.number));
     }
-    let row = read_row(table, root);
-    if row.past.0 == 1 {
-        return Mapped::Refused(refused(MISSING_FUNCTION_PARAMETER, VALIDATION_ARGS, root));
-    }
-    validate_arguments(text, table, Node(1))
+    let arguments = TreeNode {
+        text,
+        table,
+        number: Node(1),
+    };
+    validate_arguments(&arguments)
 }

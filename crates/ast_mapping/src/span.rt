@@ -1,17 +1,17 @@
 // The span table: start and end of each string of a policy, request headers first, then query parameters, then response headers.
-ghost use Rattle.std.specs.Prelude.{◌≡◌, ◌+◌, ◌*◌, ◌≤◌, length};
-ghost use Rattle.cel_policy.specs.Policy.{Span, no_policy, counted, numbers, string_count};
+ghost use Rattle.std.specs.Prelude.{◌≡◌, ◌+◌, ◌*◌, ◌≤◌, length, MatchResult};
+ghost use Rattle.cel_policy.specs.Policy.{Span, counted, numbers, string_count, all_strings};
 ghost use Rattle.cel_policy.specs.Mapping.{skipped};
 ghost use Rattle.cel_policy.specs.Spans.{spans_left};
 ghost use Rattle.parser.specs.Found.{told};
 ghost use Rattle.ast_mapping.specs.declared.mapping.Mapped.TheVariants.{ResponseOnly, Full};
 ghost use Rattle.ast_mapping.specs.View.{strings_of, Tabled};
-ghost use Rattle.ast_mapping.specs.Steps.{refusal_told, SmallNode, mapped_as, MappedIn};
+ghost use Rattle.ast_mapping.specs.Steps.{refusal_told, SmallNode, list_number, policy_as, mapped_as, MappedIn};
 ghost use Rattle.ast_mapping.specs.Spans.{PutList, Put, strings_in, few, spare_from, refused_in, Settled};
 
-use crate::mapping::{Mapped, Refusal};
+use crate::mapping::{ListKind, Mapped, Refusal, Request, Response};
 use crate::{PolicyAnswer, SPAN_WORDS, without_policy};
-use cel_policy::{FULL, Policy, RESPONSE_ONLY, SKIP};
+use cel_policy::{EXCLUSIONS, FULL, INCLUSIONS, Policy, RESPONSE_ONLY, SKIP};
 use parser::row::read_row;
 use parser::{ACCEPTED, Answer, Node, TABLE_TOO_SHORT};
 
@@ -21,31 +21,15 @@ fn put_list(table: &[u32], list: Node, spans: &mut [u32], from: usize) -> usize
     requires list_in_bounds { 2 * (from + length (strings_of table.now list.0)) ≤ length spans.old }
     ensures { PutList table.now list.0 spans.old spans.new from result }
 {
-    let array = read_row(table, list);
-    let end = array.past;
-    let mut next = Node(list.0 + 1);
-    let mut at = from;
-    while next.0 < end.0 {
-        let string = read_row(table, next);
-        spans[2 * at] = string.from.0 as u32;
-        spans[2 * at + 1] = string.to.0 as u32;
-        next = Node(next.0 + 1);
-        at += 1;
+    let first = list.0 + 1;
+    let count = read_row(table, list).past.0 - first;
+    for i in 0..count {
+        let string = read_row(table, Node(first + i));
+        let at = 2 * (from + i);
+        spans[at] = string.from.0 as u32;
+        spans[at + 1] = string.to.0 as u32;
     }
-    at
-}
-
-// The policy without a form: nothing was accepted.
-pub(crate) fn no_policy() -> Policy
-    ensures { numbers result ≡ no_policy }
-{
-    Policy {
-        form: 0,
-        kind: 0,
-        request: 0,
-        query: 0,
-        response: 0,
-    }
+    from + count
 }
 
 // The policy without lists.
@@ -54,46 +38,47 @@ fn skip() -> Policy
 {
     Policy {
         form: SKIP,
-        kind: 0,
-        request: 0,
-        query: 0,
-        response: 0,
+        ..Policy::default()
     }
 }
 
-fn put_response(table: &[u32], kind: u32, list: Node, spans: &mut [u32]) -> Policy
-    requires tabled { Tabled table.now list.0 }
-    requires few { few spans.old (strings_of table.now list.0) }
-    ensures { Put (mapped_as table.now (ResponseOnly kind list)) spans.old spans.new result }
+impl ListKind {
+    // The number that SPEC.md gives it.
+    fn number(self) -> u32
+        ensures { result ≡ list_number self }
+    {
+        match self {
+            ListKind::Inclusions => INCLUSIONS,
+            ListKind::Exclusions => EXCLUSIONS,
+        }
+    }
+}
+
+fn put_response(table: &[u32], response: Response, spans: &mut [u32]) -> Policy
+    requires tabled { Tabled table.now response.list.0 }
+    requires few { few spans.old (strings_of table.now response.list.0) }
+    ensures { Put (policy_as table.now (ResponseOnly response)) spans.old spans.new result }
 {
-    let response = put_list(table, list, spans, 0);
+    let count = put_list(table, response.list, spans, 0);
     Policy {
         form: RESPONSE_ONLY,
-        kind,
-        request: 0,
-        query: 0,
-        response: response as u32,
+        kind: response.kind.number(),
+        response: count as u32,
+        ..Policy::default()
     }
 }
 
-fn put_full(
-    table: &[u32],
-    headers: Node,
-    query: Node,
-    kind: u32,
-    list: Node,
-    spans: &mut [u32],
-) -> Policy
-    requires tabled { Tabled table.now headers.0 × Tabled table.now query.0 × Tabled table.now list.0 }
-    requires few { few spans.old (strings_in (mapped_as table.now (Full headers query kind list))) }
-    ensures { Put (mapped_as table.now (Full headers query kind list)) spans.old spans.new result }
+fn put_full(table: &[u32], request: Request, response: Response, spans: &mut [u32]) -> Policy
+    requires tabled { Tabled table.now request.headers.0 × Tabled table.now request.query.0 × Tabled table.now response.list.0 }
+    requires few { few spans.old (all_strings (policy_as table.now (Full request response))) }
+    ensures { Put (policy_as table.now (Full request response)) spans.old spans.new result }
 {
-    let first = put_list(table, headers, spans, 0);
-    let second = put_list(table, query, spans, first);
-    let third = put_list(table, list, spans, second);
+    let first = put_list(table, request.headers, spans, 0);
+    let second = put_list(table, request.query, spans, first);
+    let third = put_list(table, response.list, spans, second);
     Policy {
         form: FULL,
-        kind,
+        kind: response.kind.number(),
         request: first as u32,
         query: (second - first) as u32,
         response: (third - second) as u32,
@@ -133,25 +118,35 @@ fn refused_in(tree: Answer, refusal: Refusal) -> Answer
     }
 }
 
-// The answer of a tree that was mapped. The strings of a policy are put into the span table.
-pub(crate) fn settle(table: &[u32], mapped: Mapped, tree: Answer, spans: &mut [u32]) -> PolicyAnswer
+// The strings of a policy are put into the span table.
+fn put_policy(table: &[u32], mapped: Mapped, spans: &mut [u32]) -> Policy
     requires mapped_in { MappedIn table.now mapped }
+    requires few { few spans.old (all_strings (policy_as table.now mapped)) }
+    ensures { Put (policy_as table.now mapped) spans.old spans.new result }
+{
+    match mapped {
+        Mapped::Skip => skip(),
+        Mapped::ResponseOnly(response) => put_response(table, response, spans),
+        Mapped::Full(request, response) => put_full(table, request, response, spans),
+    }
+}
+
+// The answer of a tree that was mapped. The strings of a policy are put into the span table.
+pub(crate) fn settle(
+    table: &[u32],
+    mapped: Result<Mapped, Refusal>,
+    tree: Answer,
+    spans: &mut [u32],
+) -> PolicyAnswer
+    requires mapped_in { MatchResult mapped (MappedIn table.now) SmallNode }
     requires few { few spans.old (strings_in (mapped_as table.now mapped)) }
     ensures { Settled (mapped_as table.now mapped) tree spans.old spans.new result }
 {
     match mapped {
-        Mapped::Skip => PolicyAnswer {
+        Ok(policy) => PolicyAnswer {
             answer: tree,
-            policy: skip(),
+            policy: put_policy(table, policy, spans),
         },
-        Mapped::ResponseOnly(kind, list) => PolicyAnswer {
-            answer: tree,
-            policy: put_response(table, kind, list, spans),
-        },
-        Mapped::Full(headers, query, kind, list) => PolicyAnswer {
-            answer: tree,
-            policy: put_full(table, headers, query, kind, list, spans),
-        },
-        Mapped::Refused(r) => without_policy(refused_in(tree, r)),
+        Err(refusal) => without_policy(refused_in(tree, refusal)),
     }
 }

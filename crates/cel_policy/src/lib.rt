@@ -3,8 +3,8 @@
 // is a policy's numbers.
 #![tactic(auto)]
 
-// A policy as numbers: form, list kind, and how many strings each list has.
-#[derive(Clone, Copy)]
+// A policy as numbers: form, list kind, and how many strings each list has. The default is no policy.
+#[derive(Clone, Copy, Default)]
 pub struct Policy {
     pub form: u32,
     pub kind: u32,

@@ -1,32 +1,27 @@
 -- `mapping::map_cel_ast` meets its contract: the root, then its first argument. Assumes nothing.
-use mathlib.Core.Path.{sym, ◌∙◌}
-use Rattle.ast_mapping.specs.Steps.{Checked}
-use Rattle.ast_mapping.specs.declared.mapping.Check.TheVariants.{Right}
-use Rattle.ast_mapping.proofs.View.{RowRead, row_read, room}
-use Rattle.ast_mapping.proofs.Parts.{map-untyped, map-bare, argument-held, map-argument}
+use mathlib.Core.Path.{refl, sym}
+use Rattle.cel_policy.specs.Mapping.{mapping}
+use Rattle.ast_mapping.specs.declared.tree.TreeNode.{TreeNode}
+use Rattle.ast_mapping.proofs.Parts.{stops, goes_on, refuses, small, bare, argument-held, with-argument}
 use Rattle.ast_mapping.proofs.mapping.map_cel_ast.Goals as goal
 
-pub validate_node-call-requires : goal.validate_node-call-requires
-validate_node-call-requires c = c.requires
-
-pub returns-in-Refused : goal.returns-in-Refused
-returns-in-Refused c =
-    map-untyped c.args.table.now c.args.text.now c.requires (rw c.in-Refused.is at c.validate_node-call.ensures)
+pub returns-in_err-validate_node : goal.returns-in_err-validate_node
+unfolding mapping
+returns-in_err-validate_node c = stops _ c.in_err-validate_node.ensures c.from_residual.ensures.1
 
 pub returns-then-row-eq1 : goal.returns-then-row-eq1
+unfolding mapping
 returns-then-row-eq1 c =
-    let right : Checked c.args.table.now c.args.text.now 0 1 Right = rw c.in_default.is at c.validate_node-call.ensures in
-    let root : RowRead c.args.table.now 0 c.read_row-row.result = row_read c.read_row-row.ensures (room c.args.table.now c.args.text.now 0 c.requires) in
-    map-bare c.args.table.now c.args.text.now c.requires right (sym root.past ∙ c.if-row-eq1.true) c.refused.ensures
+    let e : TreeNode = record { text = c.args.text; table = c.args.table; number = record { 0 = 0 }; held = c.requires } in
+    goes_on _ c.in_ok-validate_node.ensures (rw (sym (bare e c.row.ensures c.if-row-eq1.true)) (refuses c.refused.ensures refl (small e)))
 
-pub validate_arguments-requires : goal.validate_arguments-requires
-validate_arguments-requires c =
-    let right : Checked c.args.table.now c.args.text.now 0 1 Right = rw c.in_default.is at c.validate_node-call.ensures in
-    let root : RowRead c.args.table.now 0 c.read_row-row.result = row_read c.read_row-row.ensures (room c.args.table.now c.args.text.now 0 c.requires) in
-    argument-held c.args.table.now c.args.text.now c.requires right (λ e. c.if-row-eq1.false (root.past ∙ e))
+pub invariant_of-arguments : goal.invariant_of-arguments
+invariant_of-arguments c =
+    let e : TreeNode = record { text = c.args.text; table = c.args.table; number = record { 0 = 0 }; held = c.requires } in
+    record { held = argument-held e c.row.ensures c.if-row-eq1.false }
 
 pub returns : goal.returns
+unfolding mapping
 returns c =
-    let right : Checked c.args.table.now c.args.text.now 0 1 Right = rw c.in_default.is at c.validate_node-call.ensures in
-    let root : RowRead c.args.table.now 0 c.read_row-row.result = row_read c.read_row-row.ensures (room c.args.table.now c.args.text.now 0 c.requires) in
-    map-argument c.args.table.now c.args.text.now c.requires right (λ e. c.if-row-eq1.false (root.past ∙ e)) c.validate_arguments.ensures
+    let e : TreeNode = record { text = c.args.text; table = c.args.table; number = record { 0 = 0 }; held = c.requires } in
+    goes_on _ c.in_ok-validate_node.ensures (rw (sym (with-argument e c.row.ensures c.if-row-eq1.false)) c.validate_arguments.ensures)

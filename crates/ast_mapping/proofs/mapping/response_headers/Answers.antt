@@ -1,58 +1,32 @@
 -- `mapping::response_headers` meets its contract: the list object, then the strings in it, where they are. Assumes nothing.
-use Rattle.ast_mapping.specs.Steps.{Looked, Checked}
-use Rattle.ast_mapping.specs.declared.row.Found.TheVariants.{At}
-use Rattle.ast_mapping.specs.declared.mapping.Check.TheVariants.{Right}
-use Rattle.ast_mapping.proofs.Lists.{tabled}
-use Rattle.ast_mapping.proofs.Parts.{headers-none, headers-untyped, headers-empty, headers-wrong, headers-right}
+use mathlib.Core.Path.{refl, sym, ◌∙◌}
+use Rattle.cel_policy.specs.Mapping.{headers_of, list_of}
+use Rattle.ast_mapping.proofs.Parts.{stops, goes_on, listed}
 use Rattle.ast_mapping.proofs.mapping.response_headers.Goals as goal
 
-pub lookup-found-requires : goal.lookup-found-requires
-lookup-found-requires c = c.requires.0
-
 pub returns-in_default : goal.returns-in_default
-returns-in_default c =
-    headers-none c.args.table.now c.args.text.now c.args.object.0 c.args.name (rw c.in_default.is at c.lookup-found.ensures)
+unfolding list_of
+returns-in_default c = rw (sym c.in_default.ensures.found) (record { is = refl; inside = tt })
 
-pub validate_node-check-requires : goal.validate_node-check-requires
-validate_node-check-requires c =
-    let looked : Looked c.args.table.now c.args.text.now c.args.object.0 c.args.name (At c.in-At.list) = rw c.in-At.is at c.lookup-found.ensures in
-    looked.held
+pub returns-in_err-validate_node : goal.returns-in_err-validate_node
+unfolding list_of
+returns-in_err-validate_node c = rw (sym c.in-Some.ensures.found) (stops _ c.in_err-validate_node.ensures c.from_residual.ensures.1)
 
-pub returns-in-Refused : goal.returns-in-Refused
-returns-in-Refused c =
-    let looked : Looked c.args.table.now c.args.text.now c.args.object.0 c.args.name (At c.in-At.list) = rw c.in-At.is at c.lookup-found.ensures in
-    headers-untyped c.args.table.now c.args.text.now c.args.object.0 c.args.name looked
-    (rw c.in-Refused.is at c.validate_node-check.ensures)
+pub returns-in_default-lookup : goal.returns-in_default-lookup
+unfolding list_of headers_of
+returns-in_default-lookup c =
+    rw (sym c.in-Some.ensures.found) (goes_on _ c.in_ok-validate_node.ensures (rw (sym c.in_default-lookup.ensures.found) (record { is = refl; inside = tt })))
 
-pub lookup-inner-requires : goal.lookup-inner-requires
-lookup-inner-requires c =
-    let looked : Looked c.args.table.now c.args.text.now c.args.object.0 c.args.name (At c.in-At.list) = rw c.in-At.is at c.lookup-found.ensures in
-    looked.held
-
-pub returns-in_default-inner : goal.returns-in_default-inner
-returns-in_default-inner c =
-    let looked : Looked c.args.table.now c.args.text.now c.args.object.0 c.args.name (At c.in-At.list) = rw c.in-At.is at c.lookup-found.ensures in
-    let right : Checked c.args.table.now c.args.text.now c.in-At.list.0 15 Right = rw c.in_default-check.is at c.validate_node-check.ensures in
-    headers-empty c.args.table.now c.args.text.now c.args.object.0 c.args.name looked right
-    (rw c.in_default-inner.is at c.lookup-inner.ensures)
-
-pub validate_string_array-strings-requires : goal.validate_string_array-strings-requires
-validate_string_array-strings-requires c =
-    let inside : Looked c.args.table.now c.args.text.now c.in-At.list.0 16 (At c.in-At-inner.headers) = rw c.in-At-inner.is at c.lookup-inner.ensures in
-    (tabled c.args.table.now c.args.text.now c.in-At-inner.headers.0 inside.held, c.requires.1)
-
-pub returns-in-Refused-strings : goal.returns-in-Refused-strings
-returns-in-Refused-strings c =
-    let looked : Looked c.args.table.now c.args.text.now c.args.object.0 c.args.name (At c.in-At.list) = rw c.in-At.is at c.lookup-found.ensures in
-    let right : Checked c.args.table.now c.args.text.now c.in-At.list.0 15 Right = rw c.in_default-check.is at c.validate_node-check.ensures in
-    let inside : Looked c.args.table.now c.args.text.now c.in-At.list.0 16 (At c.in-At-inner.headers) = rw c.in-At-inner.is at c.lookup-inner.ensures in
-    headers-wrong c.args.table.now c.args.text.now c.args.object.0 c.args.name looked right inside
-    (rw c.in-Refused-strings.is at c.validate_string_array-strings.ensures)
+pub returns-in_err-validate_string_array : goal.returns-in_err-validate_string_array
+unfolding list_of headers_of
+returns-in_err-validate_string_array c =
+    rw (sym c.in-Some.ensures.found)
+    (goes_on _ c.in_ok-validate_node.ensures
+    (rw (sym c.in-Some-lookup.ensures.found) (stops _ c.in_err-validate_string_array.ensures c.from_residual-in_err-validate_string_array.ensures.1)))
 
 pub returns : goal.returns
+unfolding list_of headers_of
 returns c =
-    let looked : Looked c.args.table.now c.args.text.now c.args.object.0 c.args.name (At c.in-At.list) = rw c.in-At.is at c.lookup-found.ensures in
-    let right : Checked c.args.table.now c.args.text.now c.in-At.list.0 15 Right = rw c.in_default-check.is at c.validate_node-check.ensures in
-    let inside : Looked c.args.table.now c.args.text.now c.in-At.list.0 16 (At c.in-At-inner.headers) = rw c.in-At-inner.is at c.lookup-inner.ensures in
-    headers-right c.args.table.now c.args.text.now c.args.object.0 c.args.name looked right inside
-    (rw c.in_default-strings.is at c.validate_string_array-strings.ensures)
+    let list = listed c.in-Some-lookup.headers c.args.name (c.in-Some-lookup.ensures.same ∙ c.in-Some.ensures.same) c.in_ok-validate_string_array.ensures in
+    rw (sym c.in-Some.ensures.found)
+    (goes_on _ c.in_ok-validate_node.ensures (rw (sym c.in-Some-lookup.ensures.found) (goes_on _ list (record { is = refl; inside = list.inside }))))

@@ -1,50 +1,25 @@
--- `mapping::validate_arguments` meets its contract: the object, then which of two keys is there, and what the second holds. Assumes nothing.
-use Rattle.ast_mapping.specs.Steps.{Checked}
-use Rattle.ast_mapping.specs.declared.mapping.Check.TheVariants.{Right}
-use Rattle.ast_mapping.proofs.Parts.{Chosen, chosen, arguments-untyped, arguments-skip, arguments-refused, arguments-certified}
+-- `mapping::validate_arguments` meets its contract: the object, one of two keys, then what stands there. Assumes nothing.
+use mathlib.Core.Path.{refl}
+use Rattle.cel_policy.specs.Mapping.{validation_args, certification_of}
+use Rattle.ast_mapping.specs.declared.mapping.Only.TheVariants.{First, Second}
+use Rattle.ast_mapping.specs.Steps.{policy_as, MappedIn}
+use Rattle.ast_mapping.proofs.Parts.{stops, goes_on, picked, moved}
 use Rattle.ast_mapping.proofs.mapping.validate_arguments.Goals as goal
 
-pub validate_node-check-requires : goal.validate_node-check-requires
-validate_node-check-requires c = c.requires
-
-pub returns-in-Refused : goal.returns-in-Refused
-returns-in-Refused c =
-    arguments-untyped c.args.table.now c.args.text.now c.args.arguments.0 (rw c.in-Refused.is at c.validate_node-check.ensures)
-
-pub lookup-no-requires : goal.lookup-no-requires
-lookup-no-requires c = c.requires
-
-pub lookup-yes-requires : goal.lookup-yes-requires
-lookup-yes-requires c = c.requires
-
-pub validate_certification-requires : goal.validate_certification-requires
-validate_certification-requires c =
-    let which : Chosen c.args.table.now c.args.text.now c.args.arguments.0 11 12 3 4 c.exactly_one-only.result =
-    chosen c.args.table.now c.args.text.now c.args.arguments.0 11 12 c.requires c.lookup-no.ensures c.lookup-yes.ensures
-    c.exactly_one-only.result c.exactly_one-only.ensures in
-    (rw c.in-Second.is at which).held
+pub returns-in_err-only : goal.returns-in_err-only
+unfolding validation_args
+returns-in_err-only c =
+    goes_on _ c.in_ok-validate_node.ensures
+    (stops _ (picked c.args.arguments.now 11 12 c.lookup.ensures c.lookup-2.ensures c.in_err-only.ensures) c.from_residual-in_err-only.ensures.1)
 
 pub returns-in-First : goal.returns-in-First
+unfolding validation_args certification_of
 returns-in-First c =
-    let right : Checked c.args.table.now c.args.text.now c.args.arguments.0 2 Right = rw c.in_default.is at c.validate_node-check.ensures in
-    let which : Chosen c.args.table.now c.args.text.now c.args.arguments.0 11 12 3 4 c.exactly_one-only.result =
-    chosen c.args.table.now c.args.text.now c.args.arguments.0 11 12 c.requires c.lookup-no.ensures c.lookup-yes.ensures
-    c.exactly_one-only.result c.exactly_one-only.ensures in
-    arguments-skip c.args.table.now c.args.text.now c.args.arguments.0 right (rw c.in-First.is at which)
+    goes_on _ c.in_ok-validate_node.ensures
+    (goes_on _ {a = First c.in-First.field-0} (picked c.args.arguments.now 11 12 c.lookup.ensures c.lookup-2.ensures (rw c.in-First.is at c.in_ok-only.ensures)) (record { is = refl; inside = tt }))
 
 pub returns-in-Second : goal.returns-in-Second
+unfolding validation_args certification_of
 returns-in-Second c =
-    let right : Checked c.args.table.now c.args.text.now c.args.arguments.0 2 Right = rw c.in_default.is at c.validate_node-check.ensures in
-    let which : Chosen c.args.table.now c.args.text.now c.args.arguments.0 11 12 3 4 c.exactly_one-only.result =
-    chosen c.args.table.now c.args.text.now c.args.arguments.0 11 12 c.requires c.lookup-no.ensures c.lookup-yes.ensures
-    c.exactly_one-only.result c.exactly_one-only.ensures in
-    arguments-certified c.args.table.now c.args.text.now c.args.arguments.0 right (rw c.in-Second.is at which)
-    c.validate_certification.ensures
-
-pub returns-in-Refused-only : goal.returns-in-Refused-only
-returns-in-Refused-only c =
-    let right : Checked c.args.table.now c.args.text.now c.args.arguments.0 2 Right = rw c.in_default.is at c.validate_node-check.ensures in
-    let which : Chosen c.args.table.now c.args.text.now c.args.arguments.0 11 12 3 4 c.exactly_one-only.result =
-    chosen c.args.table.now c.args.text.now c.args.arguments.0 11 12 c.requires c.lookup-no.ensures c.lookup-yes.ensures
-    c.exactly_one-only.result c.exactly_one-only.ensures in
-    arguments-refused c.args.table.now c.args.text.now c.args.arguments.0 right (rw c.in-Refused-only.is at which)
+    let only = picked c.args.arguments.now 11 12 c.lookup.ensures c.lookup-2.ensures (rw c.in-Second.is at c.in_ok-only.ensures) in
+    goes_on _ c.in_ok-validate_node.ensures (goes_on _ {a = Second c.in-Second.certification} only (moved policy_as MappedIn only.inside c.validate_certification.ensures))

@@ -1,22 +1,18 @@
 -- `mapping::validate_certification` meets its contract: the object, then its two parts. Assumes nothing.
-use Rattle.ast_mapping.proofs.Parts.{certification-untyped, certification-parts}
+use Rattle.cel_policy.specs.Mapping.{certification_parts}
+use Rattle.ast_mapping.proofs.Parts.{stops, goes_on, certified-gives}
 use Rattle.ast_mapping.proofs.mapping.validate_certification.Goals as goal
 
-pub validate_node-check-requires : goal.validate_node-check-requires
-validate_node-check-requires c = c.requires
+pub returns-in_err-request : goal.returns-in_err-request
+unfolding certification_parts
+returns-in_err-request c = goes_on _ c.in_ok-validate_node.ensures (stops _ c.in_err-request.ensures c.from_residual-in_err-request.ensures.1)
 
-pub returns-in-Refused : goal.returns-in-Refused
-returns-in-Refused c =
-    certification-untyped c.args.table.now c.args.text.now c.args.certification.0 (rw c.in-Refused.is at c.validate_node-check.ensures)
-
-pub validate_request_certification-request-requires : goal.validate_request_certification-request-requires
-validate_request_certification-request-requires c = c.requires
-
-pub validate_response_certification-response-requires : goal.validate_response_certification-response-requires
-validate_response_certification-response-requires c = c.requires
+pub returns-in_err-response : goal.returns-in_err-response
+unfolding certification_parts
+returns-in_err-response c =
+    goes_on _ c.in_ok-validate_node.ensures (goes_on _ c.in_ok-request.ensures (stops _ c.in_err-response.ensures c.from_residual-in_err-response.ensures.1))
 
 pub returns : goal.returns
-returns c =
-    rw c.certified.ensures
-    (certification-parts c.args.table.now c.args.text.now c.args.certification.0 (rw c.in_default.is at c.validate_node-check.ensures)
-    c.validate_request_certification-request.ensures c.validate_response_certification-response.ensures)
+unfolding certification_parts
+returns c = goes_on _ c.in_ok-validate_node.ensures (goes_on _ c.in_ok-request.ensures (goes_on _ c.in_ok-response.ensures
+    (rw c.certified.ensures (certified-gives c.args.certification.now.table.now c.in_ok-request.request c.in_ok-response.response c.in_ok-request.ensures.inside c.in_ok-response.ensures.inside))))

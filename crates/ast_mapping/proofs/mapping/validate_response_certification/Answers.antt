@@ -1,69 +1,39 @@
 -- `mapping::validate_response_certification` meets its contract: the object, its two lists, then which of them is there. Assumes nothing.
-use mathlib.Core.Path.{refl}
-use Rattle.cel_policy.specs.Mapping.{lookup, list_of}
-use Rattle.ast_mapping.specs.View.{node_at, children}
-use Rattle.ast_mapping.specs.Steps.{Looked, Checked, HeadersFound}
-use Rattle.ast_mapping.specs.declared.row.Found.TheVariants.{At}
-use Rattle.ast_mapping.specs.declared.mapping.Check.TheVariants.{Right}
-use Rattle.ast_mapping.specs.declared.mapping.Headers.TheVariants.{Good}
-use Rattle.ast_mapping.proofs.View.{few}
-use Rattle.ast_mapping.proofs.Parts.{response-missing, response-untyped, response-first, response-second, response-one}
+use mathlib.Core.Path.{sym}
+use Rattle.cel_text.specs.Table.{Words}
+use Rattle.cel_policy.specs.Mapping.{present, response_lists, response_part}
+use Rattle.ast_mapping.specs.Steps.{only_as, OnlyIf, list_of, ListIn}
+use Rattle.ast_mapping.proofs.Parts.{missing, stops, goes_on, chosen, small, moved}
 use Rattle.ast_mapping.proofs.mapping.validate_response_certification.Goals as goal
 
-pub lookup-found-requires : goal.lookup-found-requires
-lookup-found-requires c = c.requires
-
 pub returns-in_default : goal.returns-in_default
-returns-in_default c =
-    let w = c.args.table.now in
-    let x = c.args.text.now in
-    let n = c.args.certification.0 in
-    response-missing w x n (few w x n c.requires) (rw c.in_default.is at c.lookup-found.ensures) c.refused.ensures
+unfolding response_part present
+returns-in_default c = rw (sym c.in_default.ensures.found) (missing c.args.certification.now c.refused.ensures)
 
-pub validate_node-check-requires : goal.validate_node-check-requires
-validate_node-check-requires c =
-    let looked : Looked c.args.table.now c.args.text.now c.args.certification.0 11 (At c.in-At.response) = rw c.in-At.is at c.lookup-found.ensures in
-    looked.held
+pub returns-in_err-validate_node : goal.returns-in_err-validate_node
+unfolding response_part present
+returns-in_err-validate_node c = rw (sym c.in-Some.ensures.found) (stops _ c.in_err-validate_node.ensures c.from_residual.ensures.1)
 
-pub returns-in-Refused : goal.returns-in-Refused
-returns-in-Refused c =
-    let looked : Looked c.args.table.now c.args.text.now c.args.certification.0 11 (At c.in-At.response) = rw c.in-At.is at c.lookup-found.ensures in
-    response-untyped c.args.table.now c.args.text.now c.args.certification.0 looked
-    (rw c.in-Refused.is at c.validate_node-check.ensures)
+pub returns-in_err-included : goal.returns-in_err-included
+unfolding response_part present response_lists
+returns-in_err-included c =
+    rw (sym c.in-Some.ensures.found)
+    (goes_on _ c.in_ok-validate_node.ensures (stops _ c.in_err-included.ensures c.from_residual-in_err-included.ensures.1))
 
-pub response_headers-first-requires : goal.response_headers-first-requires
-response_headers-first-requires c =
-    let looked : Looked c.args.table.now c.args.text.now c.args.certification.0 11 (At c.in-At.response) = rw c.in-At.is at c.lookup-found.ensures in
-    (looked.held, refl)
+pub returns-in_err-excluded : goal.returns-in_err-excluded
+unfolding response_part present response_lists
+returns-in_err-excluded c =
+    rw (sym c.in-Some.ensures.found)
+    (goes_on _ c.in_ok-validate_node.ensures
+    (goes_on _ c.in_ok-included.ensures (stops _ c.in_err-excluded.ensures c.from_residual-in_err-excluded.ensures.1)))
 
-pub returns-in-Refused-first : goal.returns-in-Refused-first
-returns-in-Refused-first c =
-    let looked : Looked c.args.table.now c.args.text.now c.args.certification.0 11 (At c.in-At.response) = rw c.in-At.is at c.lookup-found.ensures in
-    let right : Checked c.args.table.now c.args.text.now c.in-At.response.0 12 Right = rw c.in_default-check.is at c.validate_node-check.ensures in
-    response-first c.args.table.now c.args.text.now c.args.certification.0 looked right
-    (rw c.in-Refused-first.is at c.response_headers-first.ensures)
-
-pub response_headers-second-requires : goal.response_headers-second-requires
-response_headers-second-requires c =
-    let looked : Looked c.args.table.now c.args.text.now c.args.certification.0 11 (At c.in-At.response) = rw c.in-At.is at c.lookup-found.ensures in
-    (looked.held, refl)
-
-pub returns-in-Good-second : goal.returns-in-Good-second
-returns-in-Good-second c =
-    let looked : Looked c.args.table.now c.args.text.now c.args.certification.0 11 (At c.in-At.response) = rw c.in-At.is at c.lookup-found.ensures in
-    let right : Checked c.args.table.now c.args.text.now c.in-At.response.0 12 Right = rw c.in_default-check.is at c.validate_node-check.ensures in
-    let w = c.args.table.now in
-    let included : HeadersFound w (Good c.in-Good.list) (list_of 13 (lookup 13 (children (node_at w c.args.text.now c.in-At.response.0)))) =
-    rw c.in-Good.is at c.response_headers-first.ensures in
-    response-one c.args.table.now c.args.text.now c.args.certification.0 looked right included
-    (rw c.in-Good-second.is at c.response_headers-second.ensures) c.exactly_one.result c.exactly_one.ensures
-
-pub returns-in-Refused-second : goal.returns-in-Refused-second
-returns-in-Refused-second c =
-    let looked : Looked c.args.table.now c.args.text.now c.args.certification.0 11 (At c.in-At.response) = rw c.in-At.is at c.lookup-found.ensures in
-    let right : Checked c.args.table.now c.args.text.now c.in-At.response.0 12 Right = rw c.in_default-check.is at c.validate_node-check.ensures in
-    let w = c.args.table.now in
-    let included : HeadersFound w (Good c.in-Good.list) (list_of 13 (lookup 13 (children (node_at w c.args.text.now c.in-At.response.0)))) =
-    rw c.in-Good.is at c.response_headers-first.ensures in
-    response-second c.args.table.now c.args.text.now c.args.certification.0 looked right included
-    (rw c.in-Refused-second.is at c.response_headers-second.ensures)
+pub returns : goal.returns
+unfolding response_part present response_lists
+returns c =
+    let e = c.in-Some.response in
+    let i = c.in_ok-included in
+    let x = c.in_ok-excluded in
+    let one = chosen (list_of e.table.now) (ListIn e.table.now) 15 16 e.number.0 i.included x.excluded c.exactly_one.result c.exactly_one.ensures (small e) i.ensures.inside x.ensures.inside in
+    rw (sym c.in-Some.ensures.found)
+    (goes_on _ c.in_ok-validate_node.ensures
+    (moved (λ (w : Words). only_as (list_of w)) (λ (w : Words). OnlyIf (ListIn w)) c.in-Some.ensures.same (goes_on _ i.ensures (goes_on _ x.ensures one))))
