@@ -236,10 +236,10 @@ spell-name =
 -- ---- printing
 
 -- a judgement has one refusal
-refused-as : (number place : ℕ) → Refusal
+abbrev refused-as : (number place : ℕ) → Refusal
 refused-as n i = cond (eqb n 20) WrongShape (cond (eqb n 21) (SpanOutside i) (cond (eqb n 22) (NoStringByte i) (cond (eqb n 23) TooLong OutputTooShort)))
 
-found-as : Judgement → Result (Unit {0}) Refusal
+abbrev found-as : Judgement → Result (Unit {0}) Refusal
 found-as clean = Ok tt
 found-as (faulty n i) = Err (refused-as n i)
 
