@@ -27,9 +27,11 @@ module _ (k : Counted) (ws : Words) (x : Text) where
     pub judged-21 : r ≡ true → {n : ℕ} {j : Judgement} → n ≡ string_count k → j ≡ unless_faulty 21 (first_fault (span_fits ws x) n 0) clean → j ≡ judgement any_byte k ws x
     judged-21 t h f = rw (judgement-any k ws x, sym e ∙ t) (f ∙ ap (λ (n : ℕ). unless_faulty 21 (first_fault (span_fits ws x) n 0) clean) h)
 
-  -- without fault each string lies inside
-  pub judged-inside : clean ≡ judgement any_byte k ws x → (i : ℕ) → i < string_count k → SpanInside ws x i
-  judged-inside e i h = subst (SpanInside ws x) (zero-add i) (faultless-inside (clean-faultless any_byte k ws x (sym e)) i h)
+    -- without fault each string lies inside
+    pub judged-inside :
+        r ≡ true → {n : ℕ} → n ≡ string_count k → clean ≡ unless_faulty 21 (first_fault (span_fits ws x) n 0) clean
+        → (i : ℕ) → i < string_count k → SpanInside ws x i
+    judged-inside t h f i l = subst (SpanInside ws x) (zero-add i) (faultless-inside (clean-faultless any_byte k ws x (sym (judged-21 t h f))) i l)
 
   -- 22 after both
   module _ (S : ℕ → Bool) where
@@ -54,4 +56,4 @@ module _ (S : ℕ → Bool) (p : Policy) (ws : Words) (x : Text) where
   printing_found room (Ok c) e s = rw (sym e, s.0, s.1, s.2)
   printing_found room (Err f) e s = rw (sym e)
 
-pub ruleset judging = (judged-20, judged-few, judged-21, judged-inside, judged-faulty, judged-22, err_from_is_err_and)
+pub ruleset judging = (judged-20, judged-few, judged-21, judged-faulty, judged-22, err_from_is_err_and)

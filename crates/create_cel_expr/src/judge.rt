@@ -18,7 +18,7 @@ const MAX_RESPONSE_ONLY: usize = 249;
 
 const MAX_FULL: usize = 247;
 
-// Whether form, list kind and counts go together.
+// Whether form, list kind and counts go together. Form and kind are numbers, and no enums: a caller may give any number.
 #[tactic(auto, unfolding(cel_policy::specs::Printed::shaped))]
 fn shape(policy: Policy) -> bool
     ensures { result ≡ shaped (numbers policy) }
@@ -70,7 +70,7 @@ fn plain(given: &Checked, i: usize) -> bool
     end.0 == string.len()
 }
 
-// 22: the first string that has another byte.
+// 22: the first string that has another byte. One loop for both would need clauses on what a closure asks and answers.
 #[tactic(auto, using(crate::proofs::Faults::search_on))]
 fn all_plain(given: &Checked) -> Result<(), Refusal>
     ensures { judged_as result ≡ unless_faulty 22 (first_fault (bytes_fit string_set given.now.spans.now given.now.text.now) (count_of given.now) 0) clean }

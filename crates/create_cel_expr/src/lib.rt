@@ -21,7 +21,7 @@ use checked::Checked;
 use parser::MAX_TEXT;
 pub use refusal::Refusal;
 
-// The answer of printing: its five numbers.
+// The answer of printing: SPEC.md's five numbers.
 #[derive(Clone, Copy)]
 pub struct Printed {
     pub refusal: u32,

@@ -1,6 +1,5 @@
 // The text, piece by piece. Each function writes from a place on and answers the place after what it wrote.
 ghost use Rattle.std.specs.Prelude.{◌+◌, ◌<◌, ◌≤◌, ◌++◌};
-ghost use Rattle.cel_text.specs.Byte.{bytes};
 ghost use Rattle.cel_policy.specs.Printed.{list_text, list_key, request_text, response_text, skip_text, response_only_text, full_text, printed};
 ghost use Rattle.pieces.specs.Pieces.{Wrote, Fits};
 ghost use Rattle.create_cel_expr.specs.Given.{count_of, string_of, strings_of, policy_of};

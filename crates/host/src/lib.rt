@@ -17,6 +17,7 @@ pub fn canonicalise(text: &[u8], out: &mut [u8]) -> u32
 {
     let mut nodes = [0u32; NODE_WORDS];
     let mut spans = [0u32; SPAN_WORDS];
+    // The entries answer numbers, as this one does: a Result would be made only to be taken apart again.
     let read = ast_mapping::read_over(text, &mut nodes, &mut spans);
     let answer = read.answer;
     if answer.refusal != 0 {

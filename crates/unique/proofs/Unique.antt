@@ -2,14 +2,14 @@
 -- word and byte that was lent; it asks nothing of its caller; and it gives the definition that is named here. A clause that is loosened, dropped or added
 -- fails here. The one exception to the first is `lines::next`, which reads the world: no contract can say what is read. Assumes nothing.
 use Rattle.std.specs.Prelude.{◌≡◌, refl, ℕ, ◌+◌, ◌-◌, List, [], ◌++◌, length, take, replicate}
-use Rattle.std.proofs.Common.{subst, sym, ◌∙◌}
+use Rattle.std.proofs.Common.{cond, eqb, subst, sym, ap, ◌∙◌, Result, Ok, Err}
 use borrow.Fn.Kinds.{Dens}
 use Rattle.cel_text.specs.Byte.{string_byte}
 use Rattle.cel_text.specs.Table.{row_at}
 use Rattle.cel_text.specs.Answer.{refused_at, tree_answer, tree_table, tree_over}
 use Rattle.cel_policy.specs.Names.{spelling}
 use Rattle.cel_policy.specs.Policy.{numbers}
-use Rattle.cel_policy.specs.Answers.{policy_answer, policy_nodes, policy_spans, policy_nodes_over, policy_spans_over, any_byte, judgement, print_answer, print_output, canonical_answer}
+use Rattle.cel_policy.specs.Answers.{policy_answer, policy_nodes, policy_spans, policy_nodes_over, policy_spans_over, any_byte, Judgement, clean, faulty, judgement, print_answer, print_output, canonical_answer}
 use Rattle.cel_policy.specs.Answers.{canonical_output}
 use Rattle.cel_policy.specs.declared.Policy.{Policy}
 use Rattle.pieces.specs.Pieces.{Wrote}
@@ -30,10 +30,12 @@ use Rattle.ast_mapping.proofs.read_policy
 use Rattle.ast_mapping.proofs.read_over as policy_over
 use Rattle.ast_mapping.proofs.name.spell
 use Rattle.create_cel_expr.specs.Given.{print_told}
-use Rattle.create_cel_expr.specs.Judged.{judged_as}
+use Rattle.create_cel_expr.specs.Judged.{number_of, place_of, judged_as}
 use Rattle.create_cel_expr.specs.declared.Printed.{Printed}
-use Rattle.create_cel_expr.specs.declared.Judged.{Judged}
-use Rattle.create_cel_expr.specs.declared.Judged.TheVariants.{Clean, Faulty}
+use Rattle.create_cel_expr.specs.declared.refusal.Refusal.{Refusal}
+use Rattle.create_cel_expr.specs.declared.refusal.Refusal.TheVariants.{WrongShape, SpanOutside, NoStringByte, TooLong, OutputTooShort}
+use Rattle.create_cel_expr.proofs.refusal.Refusal.number as refusal_number
+use Rattle.create_cel_expr.proofs.refusal.Refusal.place as refusal_place
 use Rattle.create_cel_expr.proofs.judge_policy
 use Rattle.create_cel_expr.proofs.print_policy
 use Rattle.create_cel_expr.proofs.print_any
@@ -233,14 +235,49 @@ spell-name =
 
 -- ---- printing
 
-judged-says : (r s : Judged) → judged_as r ≡ judged_as s → r ≡ s
-judged-says Clean Clean e = refl
-judged-says Clean (Faulty m i) e = cc
-judged-says (Faulty n j) Clean e = cc
-judged-says (Faulty n j) (Faulty m i) e = cc
+-- a judgement has one refusal
+abbrev refused-as : (number place : ℕ) → Refusal
+refused-as n i = cond (eqb n 20) WrongShape (cond (eqb n 21) (SpanOutside i) (cond (eqb n 22) (NoStringByte i) (cond (eqb n 23) TooLong OutputTooShort)))
+
+abbrev found-as : Judgement → Result (Unit {0}) Refusal
+found-as clean = Ok tt
+found-as (faulty n i) = Err (refused-as n i)
+
+found-back : (r : Result (Unit {0}) Refusal) → found-as (judged_as r) ≡ r
+found-back (Ok u) = refl
+found-back (Err WrongShape) = refl
+found-back (Err (SpanOutside i)) = refl
+found-back (Err (NoStringByte i)) = refl
+found-back (Err TooLong) = refl
+found-back (Err OutputTooShort) = refl
+
+judged-says : (r s : Result (Unit {0}) Refusal) → judged_as r ≡ judged_as s → r ≡ s
+judged-says r s e = sym (found-back r) ∙ ap found-as e ∙ found-back s
 
 print-says : (r s : Printed) → print_told r ≡ print_told s → r ≡ s
 print-says r s e = λ i. record { refusal = (e i).refusal; name = (e i).name; kind = (e i).kind; place = (e i).place; length = (e i).length }
+
+-- `create_cel_expr::Refusal::number`
+pub refusal-number :
+    Kept refusal_number.Kinds.ps refusal_number.Kinds.r refusal_number.Reads.Asked refusal_number.Reads.Post (λ κs a r v.
+    r ≡ number_of a.0)
+refusal-number =
+    record {
+      one = λ κs a r s v w e f. (meet e f, refl);
+      asks = λ κs a. tt;
+      says = λ κs a r v e. e;
+    }
+
+-- `create_cel_expr::Refusal::place`
+pub refusal-place :
+    Kept refusal_place.Kinds.ps refusal_place.Kinds.r refusal_place.Reads.Asked refusal_place.Reads.Post (λ κs a r v.
+    r ≡ place_of a.0)
+refusal-place =
+    record {
+      one = λ κs a r s v w e f. (meet e f, refl);
+      asks = λ κs a. tt;
+      says = λ κs a r v e. e;
+    }
 
 -- `create_cel_expr::judge_policy`
 pub judge-policy :

@@ -1,10 +1,9 @@
--- `judge::over_any` meets its contract: 20, then 21; what is without fault lies inside. Assumes nothing.
+-- `judge::over_any` meets its contract: 20, then 21; where there is no fault each string lies inside. Assumes nothing.
 use Rattle.cel_policy.specs.Policy.{numbers}
-use Rattle.create_cel_expr.proofs.Judgings.{judged-21, judged-inside}
+use Rattle.create_cel_expr.proofs.Judgings.{judged-inside}
 use Rattle.create_cel_expr.proofs.judge.over_any.Goals as goal
 
 pub invariant_of-result-clause-inside : goal.invariant_of-result-clause-inside
 invariant_of-result-clause-inside c =
     let a = c.args in
-    let clean = judged-21 (numbers a.policy) a.spans.now a.text.now c.shape.ensures c.if-not-shape.false c.count.ensures c.in_ok-all_inside.ensures in
-    judged-inside (numbers a.policy) a.spans.now a.text.now clean
+    judged-inside (numbers a.policy) a.spans.now a.text.now c.shape.ensures c.if-not-shape.false c.count.ensures c.in_ok-all_inside.ensures
