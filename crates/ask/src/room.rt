@@ -1,4 +1,5 @@
 // What a request gives and is lent.
+
 // The most bytes of a line and of its answer.
 pub(crate) const LINE: usize = 65536;
 

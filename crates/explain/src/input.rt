@@ -13,6 +13,7 @@ pub(crate) fn read_text<R: Read>(reader: &mut R, room: &mut [u8]) -> io::Result<
     ensures { IfOk result (λ n. n ≤ length room.new) }
 {
     let mut held = 0;
+    // No range or iterator says how far this goes: what a read brings is not known before.
     while held < room.len() {
         let got = reader.read(&mut room[held..])?;
         if got == 0 {

@@ -60,6 +60,7 @@ fn fill<R: Read>(reader: &mut R, input: &mut [u8], kept: usize) -> Option<Line>
     ensures { IfSome result (λ line. Inside line (length input.new)) }
 {
     let mut held = kept;
+    // No range or iterator says how far this goes: what a read brings is not known before.
     while held < input.len() {
         let more = read_more(reader, input, held);
         if more == held {

@@ -1,7 +1,7 @@
 -- What is shown, and what a page says of its own, is legible whatever the bytes are. Assumes nothing.
-use Rattle.std.specs.Prelude.{◌≡◌, refl, ℕ, zero, suc, ◌/◌, ◌%◌, ◌+◌, ◌≤◌, ◌<◌, Bool, true, false, cond, ◌||◌, replicate, T, eqb, ltb}
+use Rattle.std.specs.Prelude.{◌≡◌, refl, ℕ, zero, suc, ◌/◌, ◌%◌, ◌+◌, ◌≤◌, ◌<◌, Bool, true, false, cond, ◌||◌, [], ◌∷◌, replicate, T, eqb, ltb}
 use Rattle.std.proofs.Common.{mod-lt, arith, ltb-true, le-leb, ne_eqb}
-use mathlib.Core.List.{[], ◌∷◌, flat_map}
+use Rattle.std.specs.List.{flat_map}
 use Rattle.io.specs.Digits.{hex_digit_ascii}
 use Rattle.cel_text.specs.Byte.{Text, over, byte}
 use Rattle.lines.specs.Texts.{numeral, pair}
@@ -64,7 +64,6 @@ unfolding said_byte legible_byte
 said_byte-legible n b = legible-cond (eqb b 10) (byte tt over) (legible-cond (eqb b 35) (digits-legible (numeral n) (numeral-digits n)) (shown_byte-legible b))
 
 flat-legible : (f : ℕ → Text) → ((b : ℕ) → Legible (f b)) → (x : Text) → Legible (flat_map f x)
-unfolding flat_map
 flat-legible f l [] = over
 flat-legible f l (b ∷ bs) = run-append (l b) (flat-legible f l bs)
 

@@ -1,6 +1,6 @@
 -- What a page shows: bytes of a text as letters, and words of its own. Assumes nothing.
-use Rattle.std.specs.Prelude.{ℕ, Bool, cond, ◌&&◌, ◌||◌, eqb, leb}
-use mathlib.Core.List.{[], ◌∷◌, flat_map}
+use Rattle.std.specs.Prelude.{ℕ, Bool, cond, ◌&&◌, ◌||◌, [], ◌∷◌, eqb, leb}
+use Rattle.std.specs.List.{flat_map}
 use Rattle.cel_text.specs.Byte.{Text, bytes, ◌⧺◌, Run}
 use Rattle.lines.specs.Texts.{numeral, pair}
 
@@ -24,12 +24,10 @@ said_byte n b = cond (eqb b 10) (10 ∷ []) (cond (eqb b 35) (numeral n) (shown_
 
 -- a text as it is shown
 unfoldable pub shown : Text → Text
-unfolding flat_map
 shown x = flat_map shown_byte x
 
 -- words, and the number that they speak of
 unfoldable pub said : Text → (n : ℕ) → Text
-unfolding flat_map
 said words n = flat_map (said_byte n) words
 
 -- line ends and printable ASCII bytes alone

@@ -50,6 +50,7 @@ pub fn columns(b: u8) -> usize
 }
 
 // The bytes of a piece, each as it is shown.
+#[tactic(auto, unfolding(crate::specs::Page::shown))]
 pub fn put(out: &mut [u8], at: usize, piece: &[u8]) -> usize
     ensures { Wrote out.old out.new at result (shown piece.now) }
 {
@@ -83,6 +84,7 @@ fn say_byte(out: &mut [u8], at: usize, b: u8, n: usize) -> usize
 }
 
 // A page's own words: a line end ends the line, and `#` stands for the number.
+#[tactic(auto, unfolding(crate::specs::Page::said))]
 pub fn say(out: &mut [u8], at: usize, words: &[u8], n: usize) -> usize
     ensures { Wrote out.old out.new at result (said words.now n) }
 {

@@ -1,13 +1,8 @@
 -- `say` meets its contract: each byte passed is one piece more. Assumes nothing.
-use mathlib.Core.List.{flat_map}
-use Rattle.pieces.specs.Laws.{wrote_none, wrote_then, wrote_as}
+use Rattle.pieces.specs.Laws.{wrote_then, wrote_as}
 use Rattle.page.specs.Page.{said, said_byte}
 use Rattle.page.proofs.Bytes.{flat-more}
 use Rattle.page.proofs.say.Goals as goal
-
-pub loop-b-init : goal.loop-b-init
-unfolding said flat_map
-loop-b-init c = wrote_none c.args.out.now c.args.at
 
 pub loop-b-preserved : goal.loop-b-preserved
 unfolding said
