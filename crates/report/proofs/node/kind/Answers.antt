@@ -6,4 +6,4 @@ use Rattle.report.proofs.node.kind.Goals as goal
 
 pub returns : goal.returns
 unfolding kind_at
-returns c = ap (λ (r : Row). r.kind) c.read_row-row.ensures
+returns c = ap (λ (r : Row). r.kind) c.read_row.ensures
