@@ -2,59 +2,52 @@
 // Definitions in specs/Groups.antt, and what is true of them in specs/Laws.antt.
 #![tactic(auto)]
 
-ghost use Rattle.std.specs.Prelude.{◌≡◌, ◌<◌};
+ghost use Rattle.std.specs.Prelude.{◌≡◌};
 ghost use Rattle.groups.specs.Groups.{number, ending};
 
-// A number, and how many bytes it takes; or groups that are cut short, not in their shortest form, or more than three.
-#[derive(Clone, Copy)]
-pub enum Number {
-    Whole(usize, usize),
+// A number, and how many bytes it takes.
+#[derive(Clone, Copy, Debug, PartialEq, Eq)]
+pub struct Number {
+    pub value: usize,
+    pub size: usize,
+}
+
+// Groups that are cut short, not in their shortest form, or more than three.
+#[derive(Clone, Copy, Debug, PartialEq, Eq)]
+pub enum Fault {
     Cut,
     Padded,
     TooMany,
 }
 
 // The number at the front of the bytes.
-pub fn read_number(bytes: &[u8]) -> Number
+#[tactic(auto, unfolding(crate::specs::Groups::number))]
+pub fn read_number(bytes: &[u8]) -> Result<Number, Fault>
     ensures { result ≡ number bytes.now }
 {
-    if bytes.len() < 1 {
-        return Number::Cut;
+    match bytes {
+        [a, ..] if *a < 128 => Ok(Number {
+            value: usize::from(*a),
+            size: 1,
+        }),
+        [a, b, ..] if *b < 128 => end(usize::from(*a) - 128 + 128 * usize::from(*b), *b, 2),
+        [a, b, c, ..] if *c < 128 => end(
+            usize::from(*a) - 128 + 128 * (usize::from(*b) - 128) + 16384 * usize::from(*c),
+            *c,
+            3,
+        ),
+        [_, _, _, ..] => Err(Fault::TooMany),
+        _ => Err(Fault::Cut),
     }
-    let first = wide(bytes[0]);
-    if first < 128 {
-        return Number::Whole(first, 1);
-    }
-    if bytes.len() < 2 {
-        return Number::Cut;
-    }
-    let second = wide(bytes[1]);
-    if second < 128 {
-        return end(first - 128 + 128 * second, second, 2);
-    }
-    if bytes.len() < 3 {
-        return Number::Cut;
-    }
-    let third = wide(bytes[2]);
-    if third < 128 {
-        return end(first - 128 + 128 * (second - 128) + 16384 * third, third, 3);
-    }
-    Number::TooMany
 }
 
 // A number of several groups, by its last group: with 0 there the form is not the shortest.
-fn end(n: usize, group: usize, size: usize) -> Number
-    ensures { result ≡ ending n group size }
+fn end(value: usize, group: u8, size: usize) -> Result<Number, Fault>
+    ensures { result ≡ ending value group size }
 {
     if group == 0 {
-        return Number::Padded;
+        Err(Fault::Padded)
+    } else {
+        Ok(Number { value, size })
     }
-    Number::Whole(n, size)
-}
-
-fn wide(b: u8) -> usize
-    ensures value { result ≡ b }
-    ensures upper_bound { result < 256 }
-{
-    b as usize
 }
