@@ -1,4 +1,3 @@
 -- Lemmas on what the contracts cite.
 mod Fields
-mod Front
 mod Parts

@@ -1,12 +1,11 @@
 -- What is true of numbers and bytes as they are written: how `io` writes them, how long they are, and that they are read back. Assumes nothing.
-use Rattle.std.specs.Prelude.{◌≡◌, refl, ℕ, zero, suc, ◌+◌, ◌-◌, ◌*◌, ◌/◌, ◌%◌, ◌^◌, ◌≤◌, ◌<◌, List, [], ◌∷◌, ◌++◌, length, get_or, take, drop, ltb}
+use Rattle.std.specs.Prelude.{◌≡◌, refl, ℕ, zero, suc, ◌+◌, ◌-◌, ◌*◌, ◌/◌, ◌%◌, ◌^◌, ◌≤◌, ◌<◌, List, [], ◌∷◌, ◌++◌, length, get_or, take, drop, ltb, Some}
 use Rattle.std.proofs.Common.{sym, ap, ◌∙◌, pow-suc, div-lt_iff_lt-mul, le-div_iff_mul-le, le_of_suc-le-suc, lt_of_not-le, add-one, arith, append_assoc, append-nil, length-append, take-suc, lt-ltb, le-ltb, le-leb, ltb-true, ltb-false}
 use Rattle.std.proofs.Math.Nat.{pow-le-pow_right}
 use Rattle.std.proofs.Math.Seq.{take-length}
 use Rattle.std.proofs.lemmas.Bool.{lt-leb}
 use borrow.Table.Steps.{cases}
 use Rattle.io.specs.Digits.{hex_digit_ascii, last_digits, IsDigitCount}
-use Rattle.lines.specs.declared.field.Count.TheVariants.{Number}
 use Rattle.lines.specs.Fields.{hex_value, hex_bytes, read_from, read_decimal}
 use Rattle.lines.specs.Texts.{numeral_in, numeral, after_commas, numerals, pair, pairs}
 
@@ -116,7 +115,7 @@ read_some most (b ∷ bs) h = refl
 some-digits : (most n : ℕ) → length (numeral_in (suc most) n) ≡ 0 → ⊥
 some-digits most n = cases (ltb n 10) (λ t. rw t (λ e. omega (arith, e))) (λ t. rw t (simp length-append (λ e. omega (arith, e))))
 
-pub numeral-read : (most n : ℕ) → n ≤ most → read_decimal most (numeral n) ≡ Number n
+pub numeral-read : (most n : ℕ) → n ≤ most → read_decimal most (numeral n) ≡ Some n
 unfolding numeral
 numeral-read most n l =
     let x : List ℕ = numeral_in (suc n) n in
@@ -163,7 +162,7 @@ digits-pair b k s f =
     ap (λ (m : ℕ). last_digits 16 m b) e
 
 -- bytes are read back
-glyph-value : (d : ℕ) → d < 16 → hex_value (hex_digit_ascii d) ≡ d
+glyph-value : (d : ℕ) → d < 16 → hex_value (hex_digit_ascii d) ≡ Some d
 glyph-value d h =
     cases (ltb d 10)
     (λ t. let l : d < 10 = ltb-true d 10 t in
@@ -180,7 +179,7 @@ read-pair b rest h =
     let high : b / 16 % 16 < 16 = omega arith in
     let low : b % 16 < 16 = omega arith in
     let e : 16 * (b / 16 % 16) + b % 16 ≡ b = omega arith in
-    rw (glyph-value (b / 16 % 16) high, glyph-value (b % 16) low, le-ltb 15 (b / 16 % 16) (omega arith), le-ltb 15 (b % 16) (omega arith), e)
+    rw (glyph-value (b / 16 % 16) high, glyph-value (b % 16) low, e)
 
 -- each is a byte
 abbrev pub AllBytes : List ℕ → Type 0

@@ -6,7 +6,7 @@ mod input;
 mod place;
 mod write;
 
-pub use field::{Count, Field, decimal, number_after, part_start, unhex};
+pub use field::{Field, decimal, number_after, part_start, unhex};
 pub use input::{Line, next, none, to_front};
 pub use place::find;
 pub use write::{put_hex, put_number, put_words};

@@ -8,15 +8,8 @@ pub fn find(text: &[u8], from: usize, to: usize, b: u8) -> usize
     ensures lower_bound { from ≤ result }
     ensures upper_bound { from ≤ to → result ≤ to }
 {
-    let mut i = from;
-    while i < to {
-        if text.len() <= i {
-            return i;
-        }
-        if text[i] == b {
-            return i;
-        }
-        i += 1;
+    match text.get(from..to.min(text.len())) {
+        Some(part) => from + part.iter().position(|x| *x == b).unwrap_or(part.len()),
+        None => from,
     }
-    i
 }

@@ -1,33 +1,11 @@
--- A byte as it is shown, by the code's cases, and one byte more of a text. Assumes nothing.
+-- One byte more of a text. Assumes nothing.
 use mathlib.Core.Path.{◌≡◌, refl, sym, ap, ◌∙◌}
-use Prim.Native.Nat.{ℕ, ◌+◌, ◌≤◌, ◌<◌}
+use Prim.Native.Nat.{ℕ, ◌+◌, ◌<◌}
 use native.Mathlib.Numerals.{add-one}
-use native.Mathlib.Omega.{arith}
 use mathlib.Core.List.{[], ◌∷◌, ◌++◌, append_assoc, append-nil, flat_map}
 use lib.ListN.{length, get_or, take}
 use lib.Seq.{take-suc}
-use borrow.Author.Tests.{ne_eqb, le-leb, lt-leb}
-use Rattle.cel_text.specs.Byte.{Text, bytes}
-use Rattle.lines.specs.Texts.{pair}
-use Rattle.page.specs.Page.{shown_byte}
-
--- a byte that is shown as no pair
-module _ (b : ℕ) where
-  pub shown_plain : (b ≡ 92 → ⊥) → 32 ≤ b → b < 127 → shown_byte b ≡ b ∷ []
-  unfolding shown_byte
-  shown_plain n l h =
-      rw (ne_eqb b 9 (λ e. omega (arith, e)), ne_eqb b 10 (λ e. omega (arith, e)), ne_eqb b 13 (λ e. omega (arith, e)))
-      (rw (ne_eqb b 92 n, le-leb 32 b l, le-leb b 126 (omega arith)))
-
-  pub shown-low : (b ≡ 9 → ⊥) → (b ≡ 10 → ⊥) → (b ≡ 13 → ⊥) → b < 32 → shown_byte b ≡ bytes "\\x" ++ pair b
-  unfolding shown_byte
-  shown-low tab line return h = rw (ne_eqb b 9 tab, ne_eqb b 10 line, ne_eqb b 13 return, ne_eqb b 92 (λ e. omega (arith, e)), lt-leb 32 b h)
-
-  pub shown-high : 127 ≤ b → shown_byte b ≡ bytes "\\x" ++ pair b
-  unfolding shown_byte
-  shown-high h =
-      rw (ne_eqb b 9 (λ e. omega (arith, e)), ne_eqb b 10 (λ e. omega (arith, e)), ne_eqb b 13 (λ e. omega (arith, e)), ne_eqb b 92 (λ e. omega (arith, e)))
-      (rw (le-leb 32 b (omega arith), lt-leb b 126 (omega arith)))
+use Rattle.cel_text.specs.Byte.{Text}
 
 flat_append : (f : ℕ → Text) (x y : Text) → flat_map f (x ++ y) ≡ flat_map f x ++ flat_map f y
 unfolding flat_map

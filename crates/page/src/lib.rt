@@ -13,19 +13,17 @@ fn put_hex(out: &mut [u8], at: usize, b: u8) -> usize
     ensures { Wrote out.old out.new at result (bytes "\\x" ++ pair b) }
 {
     let end = pieces::put(out, at, b"\\x");
-    let row = [b];
-    lines::put_hex(out, end, &row)
+    lines::put_hex(out, end, &[b])
 }
 
 fn put_plain(out: &mut [u8], at: usize, b: u8) -> usize
     ensures { Wrote out.old out.new at result (b ∷ []) }
 {
-    let shown = [b];
-    pieces::put(out, at, &shown)
+    pieces::put(out, at, &[b])
 }
 
 // A byte as it is shown.
-#[tactic(auto, using(crate::proofs::Bytes::shown_plain))]
+#[tactic(auto, unfolding(crate::specs::Page::shown_byte))]
 fn put_byte(out: &mut [u8], at: usize, b: u8) -> usize
     ensures { Wrote out.old out.new at result (shown_byte b) }
 {
@@ -39,15 +37,13 @@ fn put_byte(out: &mut [u8], at: usize, b: u8) -> usize
     }
 }
 
-// How many columns a byte takes.
+// How many columns a byte takes. The cases are those of `put_byte`, whose bytes this one does not write: to count what was put would need room for it.
+#[tactic(auto, unfolding(crate::specs::Page::shown_byte, lines::specs::Texts::pair))]
 pub fn columns(b: u8) -> usize
     ensures { result ≡ length (shown_byte b) }
 {
     match b {
-        b'\t' => 2,
-        b'\n' => 2,
-        b'\r' => 2,
-        b'\\' => 2,
+        b'\t' | b'\n' | b'\r' | b'\\' => 2,
         b' '..=b'~' => 1,
         _ => 4,
     }
@@ -58,10 +54,8 @@ pub fn put(out: &mut [u8], at: usize, piece: &[u8]) -> usize
     ensures { Wrote out.old out.new at result (shown piece.now) }
 {
     let mut end = at;
-    let mut i = 0;
-    while i < piece.len() {
-        end = put_byte(out, end, piece[i]);
-        i += 1;
+    for b in piece {
+        end = put_byte(out, end, *b);
     }
     end
 }
@@ -70,15 +64,14 @@ pub fn put_spaces(out: &mut [u8], at: usize, n: usize) -> usize
     ensures { Wrote out.old out.new at result (replicate n 32) }
 {
     let mut end = at;
-    let mut i = 0;
-    while i < n {
+    for _ in 0..n {
         end = put_plain(out, end, b' ');
-        i += 1;
     }
     end
 }
 
 // A byte of a page's own words.
+#[tactic(auto, unfolding(crate::specs::Page::said_byte))]
 fn say_byte(out: &mut [u8], at: usize, b: u8, n: usize) -> usize
     ensures { Wrote out.old out.new at result (said_byte n b) }
 {
@@ -94,10 +87,8 @@ pub fn say(out: &mut [u8], at: usize, words: &[u8], n: usize) -> usize
     ensures { Wrote out.old out.new at result (said words.now n) }
 {
     let mut end = at;
-    let mut i = 0;
-    while i < words.len() {
-        end = say_byte(out, end, words[i], n);
-        i += 1;
+    for b in words {
+        end = say_byte(out, end, *b, n);
     }
     end
 }

@@ -1,4 +1,5 @@
 // Pieces of output: each is written from a place of a lent buffer on, and the place after it is answered. What the programs print is made of these.
+// The buffer and the place stay two parameters: a struct that holds the `&mut [u8]` needs a clause on its ghost name in every contract, so it is no plainer.
 #![tactic(auto)]
 
 ghost use Rattle.std.specs.Prelude.{◌+◌, ◌≤◌, ◌<◌, length};

@@ -1,25 +1,15 @@
 -- `put` meets its contract: each byte passed is one piece more. Assumes nothing.
 use mathlib.Core.List.{flat_map}
-use native.Mathlib.Omega.{arith}
-use lib.Seq.{take_all}
-use Rattle.pieces.specs.Laws.{wrote_none, wrote_then, wrote-length}
+use Rattle.pieces.specs.Laws.{wrote_none, wrote_then, wrote_as}
 use Rattle.page.specs.Page.{shown, shown_byte}
 use Rattle.page.proofs.Bytes.{flat-more}
 use Rattle.page.proofs.put.Goals as goal
 
-pub loop-i-init : goal.loop-i-init
+pub loop-b-init : goal.loop-b-init
 unfolding shown flat_map
-loop-i-init c = (wrote_none c.args.out.now c.args.at, omega arith)
+loop-b-init c = wrote_none c.args.out.now c.args.at
 
-pub loop-i-preserved : goal.loop-i-preserved
+pub loop-b-preserved : goal.loop-b-preserved
 unfolding shown
-loop-i-preserved c =
-    let l = c.loop-i in
-    let h = c.loop-i-test.true in
-    (rw (← flat-more shown_byte c.args.piece.now l.i h) (wrote_then l.invariant.0 c.put_byte-end.ensures), omega arith)
-
-pub shape_of-out : goal.shape_of-out
-shape_of-out c = wrote-length c.loop-i.invariant.0
-
-pub returns : goal.returns
-returns c = rw (take_all c.loop-i.i c.args.piece.now c.loop-i-test.false) at c.loop-i.invariant.0
+loop-b-preserved c =
+    wrote_as (flat-more shown_byte c.args.piece.now c.loop-b.b-index c.loop-b-test.true) (wrote_then c.loop-b.invariant c.put_byte-end.ensures)

@@ -1,12 +1,8 @@
 -- `write::put_number` meets its contract: the digits are the fewest that hold the number. Assumes nothing.
-use mathlib.Core.Path.{subst, ◌∙◌}
-use Rattle.pieces.specs.Pieces.{Wrote}
+use Rattle.std.proofs.Common.{◌∙◌}
+use Rattle.pieces.specs.Laws.{wrote_as}
 use Rattle.lines.specs.Laws.{digits-numeral}
 use Rattle.lines.proofs.write.put_number.Goals as goal
 
 pub returns : goal.returns
-returns c =
-    let a = c.args in
-    let d = c.decimal-k in
-    let p = c.put in
-    subst (Wrote a.out.now p.new.out a.at p.result) (d.ensures.digits ∙ digits-numeral d.result a.n d.ensures.len) p.ensures
+returns c = wrote_as (c.decimal-k.ensures.digits ∙ digits-numeral c.decimal-k.result c.args.n c.decimal-k.ensures.len) c.put.ensures
