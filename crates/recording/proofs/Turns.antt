@@ -8,7 +8,7 @@ use mathlib.Core.List.{[], ◌++◌}
 use lib.ListN.{length, take, drop, length-append, length-drop}
 use lib.Seq.{take_all}
 use lib.Dec.{leb}
-use borrow.Author.Tests.{le-leb, lt-leb, leb-true}
+use borrow.Author.Tests.{le-leb, leb-true}
 use Rattle.cel_text.specs.Byte.{Text}
 use Rattle.cel_text.proofs.Laws.Class.{both_true}
 use Rattle.pieces.specs.Pieces.{Wrote}
@@ -68,9 +68,6 @@ goes_on next t a e = ap (onward next t) e
 -- the bytes not yet used
 pub rest_all : (held : Text) (from : ℕ) → take (length held - from) (drop from held) ≡ drop from held
 rest_all held from = take_all (length held - from) (drop from held) (simp length-drop (omega arith))
-
-pub rest-length : (held : Text) (from : ℕ) → length (take (length held - from) (drop from held)) ≡ length held - from
-rest-length held from = ap length (rest_all held from) ∙ length-drop from held
 
 module _ (s : State) (held : Text) (ended : Bool) (out₀ : Text) where
   -- where the loop stands: after some of the turn's steps
@@ -186,28 +183,6 @@ module _ (s : State) (held : Text) (ended : Bool) (out₀ : Text) where
       drained-by out turn g.t g.told g.wrote
       (g.same
       ∙ stops (λ (v : Turned). turn_from g.most held ended (length out₀) v) g.t g.t.why (λ e. f (ap (λ (x : Turn). x.why) g.told ∙ e)))
-
-  pub drained-full : (out : Text) (turn : Turn) → Going out turn → length out - turn.written < line_room → Drained s held ended out₀ out turn
-  drained-full out turn g b =
-      let l : length out₀ - length g.t.wrote < line_room =
-      subst (λ (x : Turn). length out₀ - x.written < line_room) g.told (rw (wrote-length g.wrote) at b) in
-      drained-by out turn g.t g.told g.wrote (g.same ∙ rw (lt-leb line_room (length out₀ - length g.t.wrote) l))
-
-  -- what bounds the loop
-  pub going-used : (out : Text) (turn : Turn) → Going out turn → turn.used ≤ length held
-  going-used out turn g = rw g.told g.kept.within
-
-  pub going-written : (out : Text) (turn : Turn) → Going out turn → turn.written ≤ length out
-  going-written out turn g = rw (g.told, wrote-length g.wrote) g.kept.fits
-
-  pub going-counts : (out : Text) (turn : Turn) → Counts s 0 (length held) → Going out turn → Counts turn.state turn.used (length held - turn.used)
-  going-counts out turn c g =
-      rw g.told
-      (record {
-        count = omega (arith, c.count, g.kept.count);
-        refused = omega (arith, c.refused, g.kept.refused);
-        used = omega (arith, c.used, g.kept.within);
-      })
 
   -- a step that goes on uses a byte
   pub went-less : (from : ℕ) (out : Text) (turn : Turn) → Went from out turn → turn.why ≡ Full → length held - turn.used < length held - from

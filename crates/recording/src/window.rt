@@ -19,6 +19,7 @@ pub(crate) enum Event {
 }
 
 // What the bytes held tell, where `skip` bytes of a record are still to be skipped, and bytes may still come unless the input has ended.
+#[tactic(auto, using(crate::proofs::Events::size_fits), unfolding(crate::specs::Window::event))]
 pub(crate) fn next_event(held: &[u8], skip: usize, ended: bool) -> Event
     ensures { result ≡ event skip held.now ended }
 {

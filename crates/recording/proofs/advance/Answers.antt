@@ -1,6 +1,6 @@
 -- `advance` meets its contract: the test is the definition's. Assumes nothing.
-use Rattle.std.proofs.Common.{sym, refl, ◌∙◌, arith}
-use Rattle.recording.proofs.Turns.{halts, counts, advances}
+use Rattle.std.proofs.Common.{sym, refl, ◌∙◌}
+use Rattle.recording.proofs.Turns.{halts, advances}
 use Rattle.recording.proofs.advance.Goals as goal
 
 pub returns-then-not-countable : goal.returns-then-not-countable
@@ -8,9 +8,6 @@ returns-then-not-countable c =
     let a = c.args in
     let h = halts a.state a.held.now a.ended a.out.now _ refl (sym c.countable.ensures ∙ c.if-not-countable.true) in
     record { answer = h.0; output = h.1 }
-
-pub drain-requires : goal.drain-requires
-drain-requires c = counts c.args.state c.args.held.now (sym c.countable.ensures ∙ c.if-not-countable.false) (omega arith)
 
 pub returns : goal.returns
 returns c =
