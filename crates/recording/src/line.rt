@@ -1,5 +1,4 @@
 // The lines of a replay. Each function writes from a place of a lent buffer on and answers the place after what it wrote, as `pieces::put` does.
-ghost use Rattle.std.specs.Prelude.{◌≡◌};
 ghost use Rattle.pieces.specs.Pieces.{Wrote};
 ghost use Rattle.recording.specs.declared.Ending.TheVariants.{Complete};
 ghost use Rattle.recording.specs.Replay.{form_field, number_field, line, last_line};
