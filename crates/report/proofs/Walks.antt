@@ -1,7 +1,7 @@
 -- One byte more, or one node more, of the ways through a text and its table. Assumes nothing.
 use mathlib.Core.Path.{◌≡◌, refl, ap, ◌∙◌}
-use Prim.Native.Nat.{ℕ, zero, suc, ◌+◌, ◌-◌, ◌≤◌, ◌<◌, min}
-use native.Mathlib.Nat.{add-zero, zero-add, min-eq_left}
+use Prim.Native.Nat.{ℕ, zero, suc, ◌+◌, ◌-◌, ◌≤◌, ◌<◌}
+use native.Mathlib.Nat.{add-zero, zero-add}
 use native.Mathlib.Numerals.{add-one}
 use native.Mathlib.Omega.{arith}
 use mathlib.Core.Bool.{cond}
@@ -10,18 +10,18 @@ use mathlib.Core.List.{List, [], ◌∷◌, ◌++◌, reverse}
 use lib.ListN.{length, get_or, take, drop, drop_of_length-le, length-append}
 use lib.Seq.{drop-cons, take-suc}
 use lib.Dec.{eqb, ltb}
-use borrow.Author.Tests.{ne_eqb, lt-ltb, le-ltb}
+use borrow.Author.Tests.{lt-ltb, le-ltb}
 use borrow.Table.Steps.{cases}
 use Rattle.std.specs.List.{filter, range_with_len}
 use Rattle.std.proofs.lemmas.List.{reverse-append}
 use Rattle.std.proofs.lemmas.List.Elements.{filter-append}
 use Rattle.cel_text.specs.Byte.{Text}
 use Rattle.cel_text.specs.Tree.{array}
-use Rattle.cel_text.specs.Table.{Words, string_kind, kind_number}
+use Rattle.cel_text.specs.Table.{Words, kind_number}
 use Rattle.page.specs.Page.{shown_byte}
 use Rattle.report.specs.declared.window.Side.{Side}
 use Rattle.report.specs.Window.{back_from, forth_from, back, forth, between_text, last_of, caret_text}
-use Rattle.report.specs.Node.{kind_at, from_at, arrays_before, bracket_at, start_of}
+use Rattle.report.specs.Node.{kind_at, arrays_before, bracket_at}
 
 -- forth over bytes: a place before them is added to where they end
 pub forth-moved : (bs : Text) (room k at columns : ℕ)
@@ -85,10 +85,10 @@ caret-is x place near last first n l f =
     (λ k. between_text x (f k) last) ∙ (λ k. between_text x (back x place (72 - (e k).columns)) (e k))
 
 -- the bracket lies in the text
-pub bracket-within : (x : Text) (before : ℕ) → bracket_at x before ≤ length x
-bracket-within [] before = omega arith
-bracket-within (b ∷ x) zero = grind (arith, bracket-within x zero)
-bracket-within (b ∷ x) (suc before) = omega (arith, bracket-within x (cond (eqb b 91) before (suc before)))
+pub bracket_within : (x : Text) (before : ℕ) → bracket_at x before ≤ length x
+bracket_within [] before = omega arith
+bracket_within (b ∷ x) zero = grind (arith, bracket_within x zero)
+bracket_within (b ∷ x) (suc before) = omega (arith, bracket_within x (cond (eqb b 91) before (suc before)))
 
 -- the arrays before a node
 range-more : (a n : ℕ) → range_with_len a (suc n) ≡ range_with_len a n ++ ((a + n) ∷ [])
@@ -104,21 +104,3 @@ arrays-counted ws (suc n) =
     let p : ℕ → Bool = λ (i : ℕ). eqb (kind_at ws i) (kind_number array) in
     ap (λ (l : List ℕ). length (filter p l)) (range-more 0 n)
     ∙ rw (filter-append, length-append) (rw (arrays-counted ws n, length-filter-one p (0 + n), zero-add n))
-
--- where a node's text starts, by its kind
-module _ (x : Text) (ws : Words) (node kind : ℕ) (is : kind ≡ kind_at ws node) where
-  pub start-array :
-      (before bracket place : ℕ) → kind ≡ kind_number array → before ≡ arrays_before ws node → bracket ≡ bracket_at x before
-      → place ≡ min bracket (length x) → place ≡ start_of x ws node
-  unfolding start_of
-  start-array before bracket place k b t p =
-      let within : bracket ≤ length x = omega (arith, t, bracket-within x before) in
-      rw (← is, k) (p ∙ min-eq_left within ∙ t ∙ ap (bracket_at x) b)
-
-  pub start-string : (from place : ℕ) → kind ≡ string_kind → from ≡ from_at ws node → place ≡ min (from - 1) (length x) → place ≡ start_of x ws node
-  unfolding start_of
-  start-string from place k f p = rw (← is, k) (p ∙ ap (λ (n : ℕ). min (n - 1) (length x)) f)
-
-  pub start-other : (from place : ℕ) → (kind ≡ kind_number array → ⊥) → (kind ≡ string_kind → ⊥) → from ≡ from_at ws node → place ≡ min from (length x) → place ≡ start_of x ws node
-  unfolding start_of
-  start-other from place a s f p = rw (← is, ne_eqb kind (kind_number array) a, ne_eqb kind string_kind s) (p ∙ ap (λ (n : ℕ). min n (length x)) f)

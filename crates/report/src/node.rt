@@ -8,6 +8,7 @@ use parser::Node;
 use parser::row::read_row;
 
 // A node's kind.
+#[tactic(auto, unfolding(crate::specs::Node::kind_at))]
 pub(crate) fn kind(table: &[u32], node: Node) -> u32
     ensures { result ≡ kind_at table.now node.0 }
 {
@@ -40,6 +41,7 @@ fn bracket(text: &[u8], before: usize) -> usize
     text.len()
 }
 
+#[tactic(auto, using(crate::proofs::Walks::bracket_within), unfolding(crate::specs::Node::kind_at, crate::specs::Node::from_at, crate::specs::Node::start_of))]
 pub(crate) fn start<'a>(text: &'a [u8], table: &[u32], node: Node) -> Mark<'a>
     ensures text { result.text.now ≡ text.now }
     ensures place { result.place.0 ≡ start_of text.now table.now node.0 }

@@ -30,6 +30,7 @@ fn message(refusal: u32, i: usize, long: usize) -> u32
 }
 
 // What refusals 1 to 6 mean.
+#[tactic(auto, unfolding(crate::specs::Refusal::reading_text))]
 fn put_reading(out: &mut [u8], at: usize, refusal: u32, i: usize, long: usize) -> usize
     ensures { Wrote out.old out.new at result (reading_text refusal i long) }
 {
@@ -99,6 +100,7 @@ fn put_no_property(out: &mut [u8], at: usize, name: u32) -> usize
 
 // What is wrong with two properties of which an object must have exactly one: refusals 11 to 16. A list object without headers counts as
 // absent, so of the lists the headers are spoken of.
+#[tactic(auto, unfolding(crate::specs::Refusal::choice_text))]
 fn put_choice(out: &mut [u8], at: usize, refusal: u32) -> usize
     ensures { Wrote out.old out.new at result (choice_text refusal) }
 {
@@ -113,6 +115,7 @@ fn put_choice(out: &mut [u8], at: usize, refusal: u32) -> usize
 }
 
 // What refusals 7 to 16 mean.
+#[tactic(auto, unfolding(crate::specs::Refusal::mapping_text))]
 fn put_mapping(out: &mut [u8], at: usize, answer: Answer, found: u32) -> usize
     ensures { Wrote out.old out.new at result (mapping_text (told answer) found) }
 {

@@ -77,6 +77,7 @@ impl<'a> Mark<'a> {
     }
 
     // Its line and column.
+    #[tactic(auto, unfolding(crate::specs::Window::spot_of))]
     fn spot(self) -> Spot
         ensures { result ≡ spot_of self.entry.text.now self.entry.place.0 }
     {
@@ -147,6 +148,7 @@ fn pass<'a, I: Iterator<Item = &'a u8> + Drop>(bytes: I, room: usize) -> Side
 }
 
 // The beginning of the text's line: the margin.
+#[tactic(auto, unfolding(crate::specs::Window::margin_text))]
 fn put_margin(out: &mut [u8], at: usize, from: usize) -> usize
     ensures { Wrote out.old out.new at result (margin_text from) }
 {
@@ -157,6 +159,7 @@ fn put_margin(out: &mut [u8], at: usize, from: usize) -> usize
 }
 
 // The end of the text's line, with a mark where the text goes on.
+#[tactic(auto, unfolding(crate::specs::Window::end_text))]
 fn put_end(out: &mut [u8], at: usize, more: bool) -> usize
     ensures { Wrote out.old out.new at result (end_text more) }
 {

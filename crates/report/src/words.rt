@@ -15,6 +15,7 @@ pub(crate) fn put_message(out: &mut [u8], at: usize, line: &[u8], number: u32, n
 }
 
 // What a node is.
+#[tactic(auto, unfolding(crate::specs::Words::found_text))]
 pub(crate) fn put_found(out: &mut [u8], at: usize, kind: u32) -> usize
     ensures { Wrote out.old out.new at result (found_text kind) }
 {
@@ -22,6 +23,7 @@ pub(crate) fn put_found(out: &mut [u8], at: usize, kind: u32) -> usize
 }
 
 // What a node should be, up to the name.
+#[tactic(auto, unfolding(crate::specs::Words::expected_text))]
 pub(crate) fn put_expected(out: &mut [u8], at: usize, kind: u32) -> usize
     ensures { Wrote out.old out.new at result (expected_text kind) }
 {
