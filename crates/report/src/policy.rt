@@ -46,7 +46,6 @@ impl List {
         2 * self as u32 + u32::from(count != 0)
     }
 
-    #[tactic(auto, unfolding(crate::specs::Policy::title_text))]
     fn put_title(self, out: &mut [u8], at: usize, count: usize) -> usize
         ensures { Wrote out.old out.new at result (title_text (number_of self) count) }
     {

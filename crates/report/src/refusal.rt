@@ -30,7 +30,6 @@ fn message(refusal: u32, i: usize, long: usize) -> u32
 }
 
 // What refusals 1 to 6 mean.
-#[tactic(auto, unfolding(crate::specs::Refusal::reading_text))]
 fn put_reading(out: &mut [u8], at: usize, refusal: u32, i: usize, long: usize) -> usize
     ensures { Wrote out.old out.new at result (reading_text refusal i long) }
 {
