@@ -1,2 +1,2 @@
-mod Events
+pub mod Events
 mod Turns

@@ -1,7 +1,6 @@
 -- A turn, step by step. Assumes nothing.
 use mathlib.Core.Path.{◌≡◌, refl, sym, ap, subst, ◌∙◌}
 use Prim.Native.Nat.{ℕ, zero, suc, ◌+◌, ◌-◌, ◌≤◌, ◌<◌}
-use native.Mathlib.Decide.{dec_le}
 use native.Mathlib.Nat.{add-zero}
 use native.Mathlib.Omega.{arith}
 use mathlib.Core.Bool.{Bool, true, false}
@@ -9,43 +8,31 @@ use mathlib.Core.List.{[], ◌++◌}
 use lib.ListN.{length, take, drop, length-append, length-drop}
 use lib.Seq.{take_all}
 use lib.Dec.{leb}
-use borrow.Author.Tests.{le-leb, lt-leb, leb-true}
+use borrow.Author.Tests.{le-leb, leb-true}
 use Rattle.cel_text.specs.Byte.{Text}
-use Rattle.cel_text.specs.Table.{node_words}
-use Rattle.cel_policy.specs.Spans.{span_words}
+use Rattle.cel_text.proofs.Laws.Class.{both_true}
 use Rattle.pieces.specs.Pieces.{Wrote}
 use Rattle.pieces.specs.Laws.{wrote_none, wrote_then, wrote-length, wrote-whole}
 use Rattle.recording.specs.declared.Ending.{Ending}
-use Rattle.recording.specs.declared.Reply.{Reply}
+use Rattle.recording.specs.declared.reply.Reply.{Reply}
 use Rattle.recording.specs.declared.State.{State}
 use Rattle.recording.specs.declared.Turn.{Turn}
 use Rattle.recording.specs.declared.Why.{Why}
 use Rattle.recording.specs.declared.Why.TheVariants.{Wanting as Wants, Full, Over}
 use Rattle.recording.specs.declared.window.Event.{Event}
 use Rattle.recording.specs.declared.window.Event.TheVariants.{Body, Skipping, Skipped, Wanting, Last}
-use Rattle.recording.specs.Replay.{reply_over, reply_to, too_long, last_line}
+use Rattle.recording.specs.Replay.{reply_to, too_long, last_line}
 use Rattle.recording.specs.Window.{event, part, says, takes, becomes, goes, skipping_on}
 use Rattle.recording.specs.Turn.{Turned, begun, stepped, line_room, onward, turn_from, max_count, countable, turned, turn_of}
-use Rattle.recording.specs.Steps.{Counts, is_full, turn_at, Answered, After, Stepped, turns, Drained}
+use Rattle.recording.specs.Steps.{Counts, turn_at, Answered, After, Stepped, turns, Drained}
 use Rattle.recording.specs.Laws.Event.{Moves, event-moves}
 use Rattle.recording.specs.Laws.Lengths.{says-short}
 use Rattle.recording.specs.Laws.Turn.{Kept, kept-begun, kept_step, step-uses, turned-not, turned-is}
-
-pub room-sum : (a b m : ℕ) → a ≤ m → leb b (m - a) ≡ leb (a + b) m
-room-sum a b m h =
-    elim (dec_le (a + b) m) [
-      | yes l ↦ le-leb b (m - a) (omega arith) ∙ sym (le-leb (a + b) m l)
-      | no l ↦ lt-leb b (m - a) (omega (arith, l)) ∙ sym (lt-leb (a + b) m (omega (arith, l)))
-    ]
 
 -- ---- one step
 
 pub moved : (k : ℕ) (w : Text) (ended : Bool) (e : Event) → e ≡ event k w ended → Moves (length w) ended e
 moved k w ended e q = subst (Moves (length w) ended) (sym q) (event-moves w ended k)
-
-pub reply-to : (w v : ℕ) (t : Text) (r : Reply) → w ≡ node_words → v ≡ span_words → r ≡ reply_over w v t → r ≡ reply_to t
-unfolding reply_to
-reply-to w v t r p q e = rw (p, q) at e
 
 module _ (t r : Turn) (w out out' : Text) where
   pub body-after : (from to : ℕ) (a : Reply) → a ≡ reply_to (part from to w) → Answered t to a out out' r → After t w (Body from to) out out' r
@@ -70,17 +57,9 @@ after-as t r w out out' e e' q h = subst (λ (x : Event). After t w x out out' r
 
 -- ---- the loop
 
-true-false : {P : Type 0} → ◌≡◌ {A = Bool} true false → P
-true-false e = absurd (let z : ◌≡◌ {A = ℕ} 0 1 = cc in omega arith)
-
-is-full : (a : Why) → is_full a ≡ true → a ≡ Full
-is-full Wants e = true-false (sym e)
-is-full Full e = refl
-is-full Over e = true-false (sym e)
-
-stops : (next : Turned → Turned) (t : Turned) (a : Why) → is_full a ≡ false → onward next t a ≡ t
+stops : (next : Turned → Turned) (t : Turned) (a : Why) → (a ≡ Full → ⊥) → onward next t a ≡ t
 stops next t Wants e = refl
-stops next t Full e = true-false e
+stops next t Full e = absurd (e refl)
 stops next t Over e = refl
 
 goes_on : (next : Turned → Turned) (t : Turned) (a : Why) → a ≡ Full → onward next t a ≡ next t
@@ -89,9 +68,6 @@ goes_on next t a e = ap (onward next t) e
 -- the bytes not yet used
 pub rest_all : (held : Text) (from : ℕ) → take (length held - from) (drop from held) ≡ drop from held
 rest_all held from = take_all (length held - from) (drop from held) (simp length-drop (omega arith))
-
-pub rest-length : (held : Text) (from : ℕ) → length (take (length held - from) (drop from held)) ≡ length held - from
-rest-length held from = ap length (rest_all held from) ∙ length-drop from held
 
 module _ (s : State) (held : Text) (ended : Bool) (out₀ : Text) where
   -- where the loop stands: after some of the turn's steps
@@ -183,10 +159,10 @@ module _ (s : State) (held : Text) (ended : Bool) (out₀ : Text) where
         enough = omega arith;
       }
 
-  full-why : (turn : Turn) (t : Turned) → turn ≡ turn_of t → is_full turn.why ≡ true → t.why ≡ Full
-  full-why turn t e f = is-full t.why (sym (ap (λ (x : Turn). is_full x.why) e) ∙ f)
+  full-why : (turn : Turn) (t : Turned) → turn ≡ turn_of t → turn.why ≡ Full → t.why ≡ Full
+  full-why turn t e f = sym (ap (λ (x : Turn). x.why) e) ∙ f
 
-  pub going_next : (from : ℕ) (out : Text) (turn : Turn) → Went from out turn → is_full turn.why ≡ true → Going out turn
+  pub going_next : (from : ℕ) (out : Text) (turn : Turn) → Went from out turn → turn.why ≡ Full → Going out turn
   going_next from out turn g f =
       let w : g.t.why ≡ Full = full-why turn g.t g.told f in
       going-by out turn g.t g.most g.told g.wrote g.kept g.same (g.enough w) w
@@ -202,36 +178,14 @@ module _ (s : State) (held : Text) (ended : Bool) (out₀ : Text) where
             (subst (λ (x : Turn). Wrote out₀ out 0 x.written t.wrote) (sym e) p);
       }
 
-  pub drained-stop : (from : ℕ) (out : Text) (turn : Turn) → Went from out turn → is_full turn.why ≡ false → Drained s held ended out₀ out turn
+  pub drained-stop : (from : ℕ) (out : Text) (turn : Turn) → Went from out turn → (turn.why ≡ Full → ⊥) → Drained s held ended out₀ out turn
   drained-stop from out turn g f =
       drained-by out turn g.t g.told g.wrote
       (g.same
-      ∙ stops (λ (v : Turned). turn_from g.most held ended (length out₀) v) g.t g.t.why (sym (ap (λ (x : Turn). is_full x.why) g.told) ∙ f))
-
-  pub drained-full : (out : Text) (turn : Turn) → Going out turn → length out - turn.written < line_room → Drained s held ended out₀ out turn
-  drained-full out turn g b =
-      let l : length out₀ - length g.t.wrote < line_room =
-      subst (λ (x : Turn). length out₀ - x.written < line_room) g.told (rw (wrote-length g.wrote) at b) in
-      drained-by out turn g.t g.told g.wrote (g.same ∙ rw (lt-leb line_room (length out₀ - length g.t.wrote) l))
-
-  -- what bounds the loop
-  pub going-used : (out : Text) (turn : Turn) → Going out turn → turn.used ≤ length held
-  going-used out turn g = rw g.told g.kept.within
-
-  pub going-written : (out : Text) (turn : Turn) → Going out turn → turn.written ≤ length out
-  going-written out turn g = rw (g.told, wrote-length g.wrote) g.kept.fits
-
-  pub going-counts : (out : Text) (turn : Turn) → Counts s 0 (length held) → Going out turn → Counts turn.state turn.used (length held - turn.used)
-  going-counts out turn c g =
-      rw g.told
-      (record {
-        count = omega (arith, c.count, g.kept.count);
-        refused = omega (arith, c.refused, g.kept.refused);
-        used = omega (arith, c.used, g.kept.within);
-      })
+      ∙ stops (λ (v : Turned). turn_from g.most held ended (length out₀) v) g.t g.t.why (λ e. f (ap (λ (x : Turn). x.why) g.told ∙ e)))
 
   -- a step that goes on uses a byte
-  pub went-less : (from : ℕ) (out : Text) (turn : Turn) → Went from out turn → is_full turn.why ≡ true → length held - turn.used < length held - from
+  pub went-less : (from : ℕ) (out : Text) (turn : Turn) → Went from out turn → turn.why ≡ Full → length held - turn.used < length held - from
   went-less from out turn g f =
       rw g.told (omega (arith, g.kept.within, g.further (full-why turn g.t g.told f)))
 
@@ -246,22 +200,17 @@ advances-as : (s : State) (held : Text) (ended : Bool) (out out' : Text) (r : Tu
 advances-as s held ended out out' r t e h = subst (λ (u : Turned). (r ≡ turn_of u) × Wrote out out' 0 r.written u.wrote) (sym e) h
 
 module _ (s : State) (held : Text) (ended : Bool) (out : Text) (r : Turn) (e : r ≡ turn_at s 0 0 Over) where
-  halts : countable s (length held) ≡ false → Advances s held ended out out r
+  pub halts : countable s (length held) ≡ false → Advances s held ended out out r
   halts f =
       advances-as s held ended out out r (record { state = s; used = 0; wrote = []; why = Over }) (turned-not s held ended (length out) f)
       (rw e (refl, wrote_none out 0))
 
-  pub halts-first : leb (s.count + length held) max_count ≡ false → Advances s held ended out out r
-  halts-first f = halts (rw f)
-
-  pub halts-second : leb (s.count + length held) max_count ≡ true → leb (s.refused + length held) max_count ≡ false → Advances s held ended out out r
-  halts-second f g = halts (rw (f, g))
-
-module _ (s : State) (held : Text) (f : leb (s.count + length held) max_count ≡ true) (g : leb (s.refused + length held) max_count ≡ true) where
+module _ (s : State) (held : Text) (f : countable s (length held) ≡ true) where
   pub counts : length held ≤ max_count → Counts s 0 (length held)
   counts h =
-      record { count = leb-true (s.count + length held) max_count f; refused = leb-true (s.refused + length held) max_count g; used = omega arith }
+      let both = both_true (leb (s.count + length held) max_count) (leb (s.refused + length held) max_count) f in
+      record { count = leb-true (s.count + length held) max_count both.0; refused = leb-true (s.refused + length held) max_count both.1; used = omega arith }
 
   pub advances : (ended : Bool) (out out' : Text) (r : Turn) → Drained s held ended out out' r → Advances s held ended out out' r
   advances ended out out' r d =
-      advances-as s held ended out out' r (turns s held ended (length out)) (turned-is s held ended (length out) (rw (f, g))) (d.turn, d.wrote)
+      advances-as s held ended out out' r (turns s held ended (length out)) (turned-is s held ended (length out) f) (d.turn, d.wrote)

@@ -1,5 +1,5 @@
 -- What a recording replays as, from its bytes to those of the output. Assumes nothing.
-use Rattle.std.specs.Prelude.{ℕ, zero, suc, Bool, true, false, cond, List, [], ◌∷◌, ◌++◌, length, take, drop, ltb, eqb}
+use Rattle.std.specs.Prelude.{ℕ, zero, suc, Bool, true, false, cond, List, [], ◌∷◌, ◌++◌, length, take, drop, ltb, eqb, Result, Ok, Err}
 use Rattle.cel_text.specs.Byte.{Text, bytes, ◌⧺◌}
 use Rattle.cel_text.specs.Table.{node_words}
 use Rattle.cel_policy.specs.Policy.{no_form, skip, response_only}
@@ -7,11 +7,11 @@ use Rattle.cel_policy.specs.Spans.{span_words}
 use Rattle.cel_policy.specs.Answers.{PolicyAnswer, policy_answer}
 use Rattle.lines.specs.Texts.{numeral}
 use Rattle.groups.specs.declared.Number.{Number}
-use Rattle.groups.specs.declared.Number.TheVariants.{Whole, Cut, Padded, TooMany}
+use Rattle.groups.specs.declared.Fault.{Fault}
 use Rattle.groups.specs.Groups.{number}
 use Rattle.recording.specs.declared.Ending.{Ending}
 use Rattle.recording.specs.declared.Ending.TheVariants.{Complete, BrokenLength, BrokenBody}
-use Rattle.recording.specs.declared.Reply.{Reply}
+use Rattle.recording.specs.declared.reply.Reply.{Reply}
 
 -- ---- the records
 
@@ -32,11 +32,9 @@ body_then after n x true = ends BrokenBody
 body_then after n x false = first (take n x) (after (drop n x))
 
 -- “A length is broken where it is cut short, not in its shortest form, or has more than three groups.”
-abbrev pub record_then : (Text → Recording) → Text → Number → Recording
-record_then after x (Whole n size) = body_then after n (drop size x) (ltb (length (drop size x)) n)
-record_then after x Cut = ends BrokenLength
-record_then after x Padded = ends BrokenLength
-record_then after x TooMany = ends BrokenLength
+abbrev pub record_then : (Text → Recording) → Text → Result Number Fault → Recording
+record_then after x (Ok n) = body_then after n.value (drop n.size x) (ltb (length (drop n.size x)) n.value)
+record_then after x (Err fault) = ends BrokenLength
 
 -- “A recording is a list of records, one after the other.” No byte, or a record and what comes after it
 abbrev pub record_or : (Text → Recording) → Text → Recording

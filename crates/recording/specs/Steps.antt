@@ -1,11 +1,11 @@
 -- What the functions that make a turn say to one another. Assumes nothing.
-use Rattle.std.specs.Prelude.{◌≡◌, ℕ, suc, ◌+◌, ◌≤◌, Bool, true, false, length}
+use Rattle.std.specs.Prelude.{◌≡◌, ℕ, suc, ◌+◌, ◌≤◌, Bool, length}
 use Rattle.cel_text.specs.Byte.{Text}
 use Rattle.pieces.specs.Pieces.{Wrote}
-use Rattle.recording.specs.declared.Reply.{Reply}
+use Rattle.recording.specs.declared.reply.Reply.{Reply}
 use Rattle.recording.specs.declared.State.{State}
 use Rattle.recording.specs.declared.Why.{Why}
-use Rattle.recording.specs.declared.Why.TheVariants.{Wanting, Full, Over}
+use Rattle.recording.specs.declared.Why.TheVariants.{Full}
 use Rattle.recording.specs.declared.Turn.{Turn}
 use Rattle.recording.specs.declared.window.Event.{Event}
 use Rattle.recording.specs.Replay.{line}
@@ -17,11 +17,6 @@ pub record Counts (state : State) (from more : ℕ) : Type 0 where
   pub count : state.count + more ≤ max_count
   pub refused : state.refused + more ≤ max_count
   pub used : from + more ≤ max_count
-
-abbrev pub is_full : Why → Bool
-is_full Wanting = false
-is_full Full = true
-is_full Over = false
 
 -- a turn that has come so far, where so many bytes are written
 abbrev pub turn_at : State → (used written : ℕ) → Why → Turn

@@ -1,12 +1,13 @@
 -- A recording through a window: what the bytes held so far tell, and what is then still to be written. Assumes nothing.
-use Rattle.std.specs.Prelude.{ℕ, suc, ◌+◌, ◌-◌, Bool, true, false, cond, [], ◌++◌, length, take, drop, ltb, eqb}
+use Rattle.std.specs.Prelude.{ℕ, suc, ◌+◌, ◌-◌, Bool, true, false, cond, [], ◌++◌, length, take, drop, ltb, eqb, Result, Ok, Err}
 use Rattle.cel_text.specs.Byte.{Text}
 use Rattle.cel_text.specs.Answer.{max_text}
 use Rattle.groups.specs.declared.Number.{Number}
-use Rattle.groups.specs.declared.Number.TheVariants.{Whole, Cut, Padded, TooMany}
+use Rattle.groups.specs.declared.Fault.{Fault}
+use Rattle.groups.specs.declared.Fault.TheVariants.{Cut, Padded, TooMany}
 use Rattle.groups.specs.Groups.{number}
 use Rattle.recording.specs.declared.Ending.TheVariants.{Complete, BrokenLength, BrokenBody}
-use Rattle.recording.specs.declared.Reply.{Reply}
+use Rattle.recording.specs.declared.reply.Reply.{Reply}
 use Rattle.recording.specs.declared.State.{State}
 use Rattle.recording.specs.declared.Why.{Why}
 use Rattle.recording.specs.declared.Why.TheVariants.{Wanting as Wants, Full as GoesOn, Over}
@@ -25,11 +26,11 @@ abbrev pub body_event : (n size held : ℕ) → (ended : Bool) → Event
 body_event n size held ended =
     cond (ltb max_text n) (Skipping size n) (cond (ltb held (size + n)) (unless ended (Last BrokenBody)) (Body size (size + n)))
 
-abbrev pub length_event : (held : ℕ) → (ended : Bool) → Number → Event
-length_event held ended (Whole n size) = body_event n size held ended
-length_event held ended Cut = unless ended (cond (eqb held 0) (Last Complete) (Last BrokenLength))
-length_event held ended Padded = Last BrokenLength
-length_event held ended TooMany = Last BrokenLength
+abbrev pub length_event : (held : ℕ) → (ended : Bool) → Result Number Fault → Event
+length_event held ended (Ok n) = body_event n.value n.size held ended
+length_event held ended (Err Cut) = unless ended (cond (eqb held 0) (Last Complete) (Last BrokenLength))
+length_event held ended (Err Padded) = Last BrokenLength
+length_event held ended (Err TooMany) = Last BrokenLength
 
 -- inside a long record, of which `skip` bytes are still to come
 abbrev pub skip_event : (skip held : ℕ) → (ended : Bool) → Event

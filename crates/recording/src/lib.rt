@@ -3,39 +3,31 @@
 #![tactic(auto)]
 
 mod line;
+mod reply;
 mod window;
 
-ghost use Rattle.std.specs.Prelude.{◌≡◌, ◌+◌, ◌≤◌, leb, length};
-ghost use Rattle.cel_text.specs.Table.{node_words};
-ghost use Rattle.cel_policy.specs.Spans.{span_words};
+ghost use Rattle.std.specs.Prelude.{◌≡◌, ◌+◌, ◌≤◌, length};
 ghost use Rattle.pieces.specs.Pieces.{Wrote};
-ghost use Rattle.recording.specs.declared.Why.TheVariants.{Full, Over};
 ghost use Rattle.recording.specs.Replay.{heading};
-ghost use Rattle.recording.specs.Window.{with_reply, skipping_on};
-ghost use Rattle.recording.specs.Turn.{beginning, max_count, turned, turn_of};
-ghost use Rattle.recording.specs.Steps.{Counts, is_full, turn_at, Answered, Stepped, Drained};
+ghost use Rattle.recording.specs.Window.{with_reply};
+ghost use Rattle.recording.specs.Turn.{beginning, max_count, countable, turned, turn_of};
+ghost use Rattle.recording.specs.Steps.{Counts, Answered, Stepped, Drained};
 
+use ast_mapping::SPAN_WORDS;
+use parser::{ACCEPTED, NODE_WORDS};
+use reply::{Reply, Tables};
 use window::Event;
 
 // How a recording ends: between two records, or in a fault.
-#[derive(Clone, Copy)]
+#[derive(Clone, Copy, Debug, PartialEq, Eq)]
 pub(crate) enum Ending {
     Complete,
     BrokenLength,
     BrokenBody,
 }
 
-// What a line says of a record: its answer, its form, its nodes and its depth.
-#[derive(Clone, Copy)]
-pub(crate) struct Reply {
-    pub answer: u32,
-    pub form: u32,
-    pub nodes: u32,
-    pub depth: u32,
-}
-
 // Where a run stands: the records that have their lines, those of them that were refused, and the bytes still to be skipped of a long record.
-#[derive(Clone, Copy)]
+#[derive(Clone, Copy, Debug, Default, PartialEq, Eq)]
 pub struct State {
     pub count: u64,
     pub refused: u64,
@@ -43,7 +35,7 @@ pub struct State {
 }
 
 // Why a turn stopped: it wants more bytes; the output has no room for another line; the last line is written.
-#[derive(Clone, Copy)]
+#[derive(Clone, Copy, Debug, PartialEq, Eq)]
 pub enum Why {
     Wanting,
     Full,
@@ -51,7 +43,7 @@ pub enum Why {
 }
 
 // A turn: where the run stands then, how many of the bytes held are used, how many bytes are written, and why it stopped.
-#[derive(Clone, Copy)]
+#[derive(Clone, Copy, Debug, PartialEq, Eq)]
 pub struct Turn {
     pub state: State,
     pub used: usize,
@@ -66,11 +58,7 @@ const LINE_ROOM: usize = 64;
 pub fn start() -> State
     ensures { result ≡ beginning }
 {
-    State {
-        count: 0,
-        refused: 0,
-        skip: 0,
-    }
+    State::default()
 }
 
 // Writes the heading, and answers its length.
@@ -86,40 +74,26 @@ pub fn advance(state: State, held: &[u8], ended: bool, out: &mut [u8]) -> Turn
     ensures answer { result ≡ turn_of (turned state held.now ended (length out.old)) }
     ensures output { Wrote out.old out.new 0 result.written (turned state held.now ended (length out.old)).wrote }
 {
-    if !countable(state.count, held.len()) {
-        return halted(state);
-    }
-    if !countable(state.refused, held.len()) {
-        return halted(state);
+    if !state.countable(held.len()) {
+        return Turn {
+            state,
+            used: 0,
+            written: 0,
+            why: Why::Over,
+        };
     }
     drain(state, held, ended, out)
 }
 
-// Whether so many more can be counted.
-fn countable(count: u64, more: usize) -> bool
-    ensures { result ≡ leb (count + more) max_count }
-{
-    more as u64 <= u64::MAX - count
-}
-
-fn halted(state: State) -> Turn
-    ensures { result ≡ turn_at state 0 0 Over }
-{
-    Turn {
-        state,
-        used: 0,
-        written: 0,
-        why: Why::Over,
-    }
-}
-
-// One step after the other, until one stops the turn or there is no room for a line. The tables are read over: no word of them is looked at.
+// One step after the other, until one stops the turn or there is no room for a line.
 fn drain(state: State, held: &[u8], ended: bool, out: &mut [u8]) -> Turn
     requires { Counts state 0 (length held.now) }
     ensures { Drained state held.now ended out.old out.new result }
 {
-    let mut nodes = line::node_table();
-    let mut spans = line::span_table();
+    let mut tables = Tables {
+        nodes: [0; NODE_WORDS],
+        spans: [0; SPAN_WORDS],
+    };
     let mut turn = Turn {
         state,
         used: 0,
@@ -127,118 +101,77 @@ fn drain(state: State, held: &[u8], ended: bool, out: &mut [u8]) -> Turn
         why: Why::Full,
     };
     while LINE_ROOM <= out.len() - turn.written {
-        let used = turn.used;
-        turn = step(turn, &held[used..], ended, out, &mut nodes, &mut spans);
-        if !full(turn) {
+        turn = turn.step(&held[turn.used..], ended, out, &mut tables);
+        if turn.why != Why::Full {
             return turn;
         }
     }
     turn
 }
 
-// Whether a turn goes on where there is room.
-fn full(turn: Turn) -> bool
-    ensures { result ≡ is_full turn.why }
-{
-    let why = turn.why;
-    match why {
-        Why::Wanting => false,
-        Why::Full => true,
-        Why::Over => false,
+impl State {
+    // Whether so many more can be counted.
+    fn countable(self, more: usize) -> bool
+        ensures { result ≡ countable self more }
+    {
+        let left = u64::MAX - more as u64;
+        self.count <= left && self.refused <= left
     }
-}
 
-// One event of the bytes not yet used.
-fn step(
-    turn: Turn,
-    rest: &[u8],
-    ended: bool,
-    out: &mut [u8],
-    nodes: &mut [u32],
-    spans: &mut [u32],
-) -> Turn
-    requires counts { Counts turn.state turn.used (length rest.now) }
-    requires nodes_len { (length nodes.old ≡ node_words) × (length spans.old ≡ span_words) }
-    ensures { Stepped turn rest.now ended out.old out.new result }
-{
-    let state = turn.state;
-    let event = window::next_event(rest, state.skip, ended);
-    match event {
-        Event::Body(from, to) => {
-            let reply = line::reply(&rest[from..to], nodes, spans);
-            answered(turn, to, reply, out)
-        }
-        Event::Skipping(to, left) => skipping(turn, to, left),
-        Event::Skipped(to) => answered(turn, to, line::too_long(), out),
-        Event::Wanting => stopped(turn, turn.written, Why::Wanting),
-        Event::Last(ending) => {
-            let end = line::put_last(out, turn.written, state.count, state.refused, ending);
-            stopped(turn, end, Why::Over)
-        }
-    }
-}
-
-// After a record's line.
-fn answered(turn: Turn, to: usize, reply: Reply, out: &mut [u8]) -> Turn
-    requires counts { Counts turn.state 0 1 }
-    requires to_bound { turn.used + to ≤ max_count }
-    ensures { Answered turn to reply out.old out.new result }
-{
-    let state = turn.state;
-    let end = line::put_line(out, turn.written, state.count, reply);
-    Turn {
-        state: count_in(state, reply),
-        used: turn.used + to,
-        written: end,
-        why: Why::Full,
-    }
-}
-
-// One record more.
-fn count_in(state: State, reply: Reply) -> State
-    requires { Counts state 0 1 }
-    ensures { result ≡ with_reply state reply }
-{
-    if reply.answer == 0 {
-        return State {
-            count: state.count + 1,
-            refused: state.refused,
+    // One record more.
+    fn counting(self, reply: Reply) -> State
+        requires { Counts self 0 1 }
+        ensures { result ≡ with_reply self reply }
+    {
+        State {
+            count: self.count + 1,
+            refused: self.refused + u64::from(reply.answer != ACCEPTED),
             skip: 0,
-        };
-    }
-    State {
-        count: state.count + 1,
-        refused: state.refused + 1,
-        skip: 0,
+        }
     }
 }
 
-// Inside a record that is skipped.
-fn skipping(turn: Turn, to: usize, left: usize) -> Turn
-    requires { turn.used + to ≤ max_count }
-    ensures { result ≡ turn_at (skipping_on turn.state left) (turn.used + to) turn.written Full }
-{
-    let state = turn.state;
-    Turn {
-        state: State {
-            count: state.count,
-            refused: state.refused,
-            skip: left,
-        },
-        used: turn.used + to,
-        written: turn.written,
-        why: Why::Full,
+impl Turn {
+    // One event of the bytes not yet used.
+    fn step(self, rest: &[u8], ended: bool, out: &mut [u8], tables: &mut Tables) -> Turn
+        requires { Counts self.state self.used (length rest.now) }
+        ensures { Stepped self rest.now ended out.old out.new result }
+    {
+        match window::next_event(rest, self.state.skip, ended) {
+            Event::Body(from, to) => self.answered(to, tables.reply(&rest[from..to]), out),
+            Event::Skipping(to, left) => Turn {
+                state: State {
+                    skip: left,
+                    ..self.state
+                },
+                used: self.used + to,
+                why: Why::Full,
+                ..self
+            },
+            Event::Skipped(to) => self.answered(to, Reply::too_long(), out),
+            Event::Wanting => Turn {
+                why: Why::Wanting,
+                ..self
+            },
+            Event::Last(ending) => Turn {
+                written: line::put_last(out, self.written, self.state, ending),
+                why: Why::Over,
+                ..self
+            },
+        }
     }
-}
 
-fn stopped(turn: Turn, written: usize, why: Why) -> Turn
-    ensures { result ≡ turn_at turn.state turn.used written why }
-{
-    let state = turn.state;
-    Turn {
-        state,
-        used: turn.used,
-        written,
-        why,
+    // After a record's line.
+    fn answered(self, to: usize, reply: Reply, out: &mut [u8]) -> Turn
+        requires counts { Counts self.state 0 1 }
+        requires to_bound { self.used + to ≤ max_count }
+        ensures { Answered self to reply out.old out.new result }
+    {
+        Turn {
+            state: self.state.counting(reply),
+            used: self.used + to,
+            written: line::put_line(out, self.written, self.state.count, reply),
+            why: Why::Full,
+        }
     }
 }

@@ -1,15 +1,15 @@
 // What the bytes held of a recording tell: one event at a time.
-ghost use Rattle.std.specs.Prelude.{◌≡◌, ◌≤◌};
-ghost use Rattle.groups.specs.declared.Number.TheVariants.{Cut};
+ghost use Rattle.std.specs.Prelude.{◌≡◌, ◌≤◌, Err};
+ghost use Rattle.groups.specs.declared.Fault.TheVariants.{Cut};
 ghost use Rattle.recording.specs.Window.{event, body_event, length_event, skip_event};
 
 use crate::Ending;
-use groups::Number;
+use groups::{Fault, Number};
 use parser::MAX_TEXT;
 
 // A whole record: its body lies from a place up to another. A long record, or more of one: where the rest begins, and how many bytes of it are to be
 // skipped. The end of a long record. A wish for more bytes. The end of the recording.
-#[derive(Clone, Copy)]
+#[derive(Clone, Copy, Debug, PartialEq, Eq)]
 pub(crate) enum Event {
     Body(usize, usize),
     Skipping(usize, usize),
@@ -19,49 +19,49 @@ pub(crate) enum Event {
 }
 
 // What the bytes held tell, where `skip` bytes of a record are still to be skipped, and bytes may still come unless the input has ended.
+#[tactic(auto, using(crate::proofs::Events::size_fits), unfolding(crate::specs::Window::event))]
 pub(crate) fn next_event(held: &[u8], skip: usize, ended: bool) -> Event
     ensures { result ≡ event skip held.now ended }
 {
     if skip != 0 {
         return skip_event(skip, held.len(), ended);
     }
-    let number = groups::read_number(held);
-    match number {
-        Number::Whole(n, size) => body_event(n, size, held.len(), ended),
-        Number::Cut => cut_event(held.len(), ended),
-        Number::Padded => Event::Last(Ending::BrokenLength),
-        Number::TooMany => Event::Last(Ending::BrokenLength),
+    match groups::read_number(held) {
+        Ok(number) => body_event(number, held.len(), ended),
+        Err(Fault::Cut) => cut_event(held.len(), ended),
+        Err(Fault::Padded) => Event::Last(Ending::BrokenLength),
+        Err(Fault::TooMany) => Event::Last(Ending::BrokenLength),
     }
 }
 
-// After a length of n that took `size` of the bytes held.
-fn body_event(n: usize, size: usize, held: usize, ended: bool) -> Event
-    requires { size ≤ held }
-    ensures { result ≡ body_event n size held ended }
+// After a length, which took some of the bytes held.
+fn body_event(length: Number, held: usize, ended: bool) -> Event
+    requires { length.size ≤ held }
+    ensures { result ≡ body_event length.value length.size held ended }
 {
-    if MAX_TEXT < n {
-        return Event::Skipping(size, n);
+    let Number { value, size } = length;
+    if MAX_TEXT < value {
+        Event::Skipping(size, value)
+    } else if value <= held - size {
+        Event::Body(size, size + value)
+    } else if ended {
+        Event::Last(Ending::BrokenBody)
+    } else {
+        Event::Wanting
     }
-    if n <= held - size {
-        return Event::Body(size, size + n);
-    }
-    if ended {
-        return Event::Last(Ending::BrokenBody);
-    }
-    Event::Wanting
 }
 
 // Where the bytes held are no whole length.
 fn cut_event(held: usize, ended: bool) -> Event
-    ensures { result ≡ length_event held ended Cut }
+    ensures { result ≡ length_event held ended (Err Cut) }
 {
     if !ended {
-        return Event::Wanting;
+        Event::Wanting
+    } else if held == 0 {
+        Event::Last(Ending::Complete)
+    } else {
+        Event::Last(Ending::BrokenLength)
     }
-    if held == 0 {
-        return Event::Last(Ending::Complete);
-    }
-    Event::Last(Ending::BrokenLength)
 }
 
 // Inside a record to be skipped.
@@ -69,13 +69,12 @@ fn skip_event(skip: usize, held: usize, ended: bool) -> Event
     ensures { result ≡ skip_event skip held ended }
 {
     if skip <= held {
-        return Event::Skipped(skip);
+        Event::Skipped(skip)
+    } else if ended {
+        Event::Last(Ending::BrokenBody)
+    } else if held == 0 {
+        Event::Wanting
+    } else {
+        Event::Skipping(held, skip - held)
     }
-    if ended {
-        return Event::Last(Ending::BrokenBody);
-    }
-    if held == 0 {
-        return Event::Wanting;
-    }
-    Event::Skipping(held, skip - held)
 }

@@ -20,7 +20,7 @@ use Rattle.recording.specs.Turn.{beginning, turned, turn_of, Runs, full, reads, 
 use Rattle.recording.specs.Laws.Event.{most_held}
 use Rattle.recording.specs.Laws.Turn.{turned-within, turned-wanting}
 use Rattle.replay.specs.declared.window.Held.{Held}
-use Rattle.replay.specs.Window.{is_last, Inside, window_of, Reads, Read, Next, Follows, Asks, Leads}
+use Rattle.replay.specs.Window.{Inside, window_of, Reads, Read, Next, Follows, Asks, Leads}
 
 abbrev held_as : (at end : ℕ) (ended : Bool) (failed : Option Error) → Held
 held_as at end ended failed = record { at = at; end = end; ended = ended; failed = failed }
@@ -69,6 +69,11 @@ left-window input at end used h =
     let e : end - (at + used) ≡ end - at - used = omega arith in
     sym (drop-take used (end - at) (drop at input) ∙ rw (drop-drop, e))
 
+next-behind : (a : Why) (rest window : Text) (ended ended' : Bool) → (a ≡ Wanting → ⊥) → window ≡ rest → ended' ≡ ended → Next a rest ended window ended'
+next-behind Wanting rest window ended ended' n w e = absurd (n refl)
+next-behind Full rest window ended ended' n w e = (w, e)
+next-behind Over rest window ended ended' n w e = (w, e)
+
 module _ (input : Text) (h : Held) (turn : Turn) (a : Asks input h turn) where
   behind-window : window_of input (held_as (h.at + turn.used) h.end h.ended None) ≡ drop turn.used (window_of input h)
   behind-window = left-window input h.at h.end turn.used a.used
@@ -76,11 +81,8 @@ module _ (input : Text) (h : Held) (turn : Turn) (a : Asks input h turn) where
   behind-inside : Inside input (held_as (h.at + turn.used) h.end h.ended None)
   behind-inside = record { ordered = a.used; room = a.inside.room }
 
-  pub follows-full : (r : Held) → turn.why ≡ Full → r ≡ held_as (h.at + turn.used) h.end h.ended None → Follows input h turn input r
-  follows-full r q e = rw e (record { inside = behind-inside; next = rw q (behind-window, refl) })
-
-  pub follows-over : (r : Held) → turn.why ≡ Over → r ≡ held_as (h.at + turn.used) h.end h.ended None → Follows input h turn input r
-  follows-over r q e = rw e (record { inside = behind-inside; next = rw q (behind-window, refl) })
+  pub follows-behind : (turn.why ≡ Wanting → ⊥) → Follows input h turn input (held_as (h.at + turn.used) h.end h.ended None)
+  follows-behind q = record { inside = behind-inside; next = next-behind turn.why _ _ _ _ q behind-window refl }
 
   pub follows-read : (input' : Text) (r : Held) → turn.why ≡ Wanting
       → Inside input' r × Reads (take (h.end - (h.at + turn.used)) (drop (h.at + turn.used) input)) (window_of input' r) r.ended → Follows input h turn input' r
@@ -119,11 +121,8 @@ apart e = absurd (let z : ◌≡◌ {A = ℕ} 0 1 = cc in omega arith)
 leads-none : Leads beginning [] false
 leads-none = record { read = []; wrote = []; leads = λ cs o f r. r }
 
-pub leads-first : (input : Text) (s : State) (h : Held) → s ≡ beginning → h ≡ held_as 0 0 false None → Leads s (window_of input h) h.ended
-leads-first input s h e f = rw (e, f) leads-none
-
-pub inside-first : (input : Text) (h : Held) → h ≡ held_as 0 0 false None → Inside input h
-inside-first input h f = rw f (record { ordered = omega arith; room = omega arith })
+pub leads-first : (input : Text) (s : State) (h : Held) → s ≡ beginning → h.at ≡ 0 → h.end ≡ 0 → h.ended ≡ false → Leads s (window_of input h) h.ended
+leads-first input s h e a z n = rw (e, a, z, n) leads-none
 
 module _ (s : State) (w : Text) (ended : Bool) (room : ℕ) (l : Leads s w ended) where
   -- the turn and what it leaves
@@ -169,15 +168,15 @@ leads-wanting : (s : State) (w : Text) (ended : Bool) (room : ℕ) → Leads s w
 leads-wanting s w false room l q w' ended' d = leads-read s w room l q w' ended' d
 leads-wanting s w true room l q w' ended' d = apart (turned-wanting s w true room q).0
 
-leads-by : (s : State) (w : Text) (ended : Bool) (room : ℕ) → Leads s w ended → (a : Why) → (turned s w ended room).why ≡ a → is_last a ≡ false
+leads-by : (s : State) (w : Text) (ended : Bool) (room : ℕ) → Leads s w ended → (a : Why) → (turned s w ended room).why ≡ a → (a ≡ Over → ⊥)
     → (w' : Text) (ended' : Bool) → Next a (drop (turned s w ended room).used w) ended w' ended' → Leads (turned s w ended room).state w' ended'
 leads-by s w ended room l Wanting q f w' ended' n = leads-wanting s w ended room l q w' ended' n
 leads-by s w ended room l Full q f w' ended' n = rw (n.0, n.1) (leads-full s w ended room l q)
-leads-by s w ended room l Over q f w' ended' n = apart f
+leads-by s w ended room l Over q f w' ended' n = absurd (f refl)
 
 -- after a turn that is not the last, and what follows it
 pub leads-next : (s : State) (input : Text) (h : Held) (room : ℕ) (turn : Turn) (input' : Text) (r : Held) → Leads s (window_of input h) h.ended
-    → turn ≡ turn_of (turned s (window_of input h) h.ended room) → is_last turn.why ≡ false → Follows input h turn input' r
+    → turn ≡ turn_of (turned s (window_of input h) h.ended room) → (turn.why ≡ Over → ⊥) → Follows input h turn input' r
     → Leads turn.state (window_of input' r) r.ended
 leads-next s input h room turn input' r l e f d =
     rw e

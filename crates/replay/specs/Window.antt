@@ -8,11 +8,6 @@ use Rattle.recording.specs.declared.Turn.{Turn}
 use Rattle.recording.specs.Turn.{beginning, Runs}
 use Rattle.replay.specs.declared.window.Held.{Held}
 
-abbrev pub is_last : Why → Bool
-is_last Wanting = false
-is_last Full = false
-is_last Over = true
-
 -- the bytes held lie within the buffer
 pub record Inside (input : Text) (h : Held) : Type 0 where
   pub ordered : h.at ≤ h.end

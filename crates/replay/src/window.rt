@@ -1,12 +1,12 @@
 // The bytes held of standard input: they lie in a lent buffer, from a place up to another.
-ghost use Rattle.std.specs.Prelude.{◌≡◌, ◌-◌, ◌≤◌, ◌<◌, false, None, length, take, drop};
+ghost use Rattle.std.specs.Prelude.{◌-◌, ◌≤◌, ◌<◌, length, take, drop};
 ghost use Rattle.replay.specs.Window.{Inside, Reads, window_of, Read, Asks, Follows};
 
 use recording::{Turn, Why};
 use std::io;
 
 // The bytes not yet used, from `at` up to `end`; whether the input has ended, and why the last read failed, if it did.
-#[derive(Clone, Copy)]
+#[derive(Clone, Copy, Default)]
 pub(crate) struct Held {
     pub at: usize,
     pub end: usize,
@@ -14,44 +14,21 @@ pub(crate) struct Held {
     pub failed: Option<io::Error>,
 }
 
-pub(crate) fn nothing() -> Held
-    ensures { result ≡ record { at = 0; end = 0; ended = false; failed = None } }
-{
-    Held {
-        at: 0,
-        end: 0,
-        ended: false,
-        failed: None,
-    }
-}
-
-// What is held for the next turn: where bytes are wanted, those that the last one left and, behind them, what a read brings.
-pub(crate) fn following<R: io::Read>(
-    reader: &mut R,
-    input: &mut [u8],
-    held: Held,
-    turn: Turn,
-) -> Held
-    requires { Asks input.old held turn }
-    ensures { Follows input.old held turn input.new result }
-{
-    let at = held.at + turn.used;
-    let why = turn.why;
-    match why {
-        Why::Wanting => refill(reader, input, at, held.end),
-        Why::Full => behind(held, at),
-        Why::Over => behind(held, at),
-    }
-}
-
-fn behind(held: Held, at: usize) -> Held
-    ensures { result ≡ record { at = at; end = held.end; ended = held.ended; failed = None } }
-{
-    Held {
-        at,
-        end: held.end,
-        ended: held.ended,
-        failed: None,
+impl Held {
+    // What is held for the next turn: where bytes are wanted, those that the last one left and, behind them, what a read brings.
+    pub(crate) fn following<R: io::Read>(self, reader: &mut R, input: &mut [u8], turn: Turn) -> Held
+        requires { Asks input.old self turn }
+        ensures { Follows input.old self turn input.new result }
+    {
+        let at = self.at + turn.used;
+        if turn.why == Why::Wanting {
+            return refill(reader, input, at, self.end);
+        }
+        Held {
+            at,
+            failed: None,
+            ..self
+        }
     }
 }
 

@@ -1,3 +1,4 @@
 pub mod Parts
 pub mod Walks
+pub mod Passes
 pub mod Prints

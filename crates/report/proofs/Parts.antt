@@ -1,13 +1,12 @@
 -- Parts of a line of words, parts of a text, and strings one after the other. Assumes nothing.
 use mathlib.Core.Path.{◌≡◌, refl, sym, ap, ◌∙◌}
 use Prim.Native.Nat.{ℕ, zero, suc, ◌+◌, ◌-◌, ◌*◌, ◌<◌, min}
-use native.Mathlib.Nat.{add-zero, min-eq_left, min-eq_right}
-use native.Mathlib.Decide.{dec_le}
+use native.Mathlib.Nat.{add-zero}
 use native.Mathlib.Numerals.{add-one}
 use native.Mathlib.Omega.{arith}
 use mathlib.Core.List.{List, [], ◌∷◌, ◌++◌, append_assoc, append-nil}
 use lib.ListN.{length, get_or, take, drop, length-take, drop_of_length-le}
-use lib.Seq.{slice, take_all, take-length}
+use lib.Seq.{slice}
 use Rattle.lines.specs.Bytes.{index_of}
 use Rattle.lines.specs.Bytes.{slice as sliced}
 use Rattle.cel_text.specs.Byte.{Text}
@@ -31,18 +30,6 @@ part-is line number from to f t =
 module _ (x : Text) (from to end : ℕ) (within : end ≡ min to (length x)) where
   pub part-outside : end < from → slice from to x ≡ []
   part-outside h = drop_of_length-le (take to x) {i = from} (omega (arith, length-take to x))
-
-  same-take : take end x ≡ take to x
-  same-take =
-      elim (dec_le to (length x)) [
-        | yes h ↦ ap (λ (n : ℕ). take n x) (within ∙ min-eq_left h)
-        | no h ↦
-            ap (λ (n : ℕ). take n x) (within ∙ min-eq_right {n = length x} {m = to} (omega (arith, h))) ∙ take-length x
-            ∙ sym (take_all to x (omega (arith, h)))
-      ]
-
-  pub part-inside : take (end - from) (drop from x) ≡ slice from to x
-  part-inside = part_slice from end x ∙ ap (λ (y : Text). drop from y) same-take
 
 -- one string more of the span table
 spans-more : (ws : Words) (n i : ℕ) → spans_at ws (suc n) i ≡ spans_at ws n i ++ (span_at ws (i + n) ∷ [])

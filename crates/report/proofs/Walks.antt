@@ -1,52 +1,80 @@
 -- One byte more, or one node more, of the ways through a text and its table. Assumes nothing.
-use mathlib.Core.Path.{◌≡◌, refl, sym, ap, ◌∙◌}
-use Prim.Native.Nat.{ℕ, zero, suc, ◌+◌, ◌-◌, ◌≤◌, ◌<◌, min}
+use mathlib.Core.Path.{◌≡◌, refl, ap, ◌∙◌}
+use Prim.Native.Nat.{ℕ, zero, suc, ◌+◌, ◌-◌, ◌≤◌, ◌<◌}
+use native.Mathlib.Nat.{add-zero, zero-add}
 use native.Mathlib.Numerals.{add-one}
 use native.Mathlib.Omega.{arith}
 use mathlib.Core.Bool.{cond}
-use lib.ListN.{length, get_or, take, drop, drop_of_length-le}
-use lib.Seq.{drop-cons, slice-cons, length-take-le}
-use lib.Dec.{eqb}
-use borrow.Author.Tests.{ne_eqb, lt-ltb, le-ltb}
+use mathlib.Core.Bool.{Bool}
+use mathlib.Core.List.{List, [], ◌∷◌, ◌++◌, reverse}
+use lib.ListN.{length, get_or, take, drop, drop_of_length-le, length-append}
+use lib.Seq.{drop-cons, take-suc}
+use lib.Dec.{eqb, ltb}
+use borrow.Author.Tests.{lt-ltb, le-ltb}
+use borrow.Table.Steps.{cases}
+use Rattle.std.specs.List.{filter, range_with_len}
+use Rattle.std.proofs.lemmas.List.{reverse-append}
+use Rattle.std.proofs.lemmas.List.Elements.{filter-append}
 use Rattle.cel_text.specs.Byte.{Text}
 use Rattle.cel_text.specs.Tree.{array}
-use Rattle.cel_text.specs.Table.{Words, string_kind, kind_number}
+use Rattle.cel_text.specs.Table.{Words, kind_number}
 use Rattle.page.specs.Page.{shown_byte}
 use Rattle.report.specs.declared.window.Side.{Side}
-use Rattle.report.specs.declared.window.Spot.{Spot}
-use Rattle.report.specs.Window.{back_from, forth_from, back, forth, between_text, last_of, caret_text, after_byte, after_bytes}
-use Rattle.report.specs.Node.{kind_at, from_at, arrays_before, bracket_at, start_of}
+use Rattle.report.specs.Window.{back_from, forth_from, back, forth, between_text, last_of, caret_text}
+use Rattle.report.specs.Node.{kind_at, arrays_before, bracket_at}
 
--- back from a place
-module _ (x : Text) (room : ℕ) where
-  pub back-stop : (at columns : ℕ) → 0 < at → room - columns < length (shown_byte (get_or x (at - 1) 0)) → record { at = at; columns = columns } ≡ back_from x room at columns
-  back-stop zero columns z h = absurd (omega arith)
-  back-stop (suc at) columns z h =
-      let e : suc at - 1 ≡ at = omega arith in
-      rw (lt-ltb (room - columns) (length (shown_byte (get_or x at 0))) (rw e at h))
+-- forth over bytes: a place before them is added to where they end
+pub forth-moved : (bs : Text) (room k at columns : ℕ)
+    → record { at = k + (forth_from bs room at columns).at; columns = (forth_from bs room at columns).columns } ≡ forth_from bs room (k + at) columns
+forth-moved [] room k at columns = refl
+forth-moved (b ∷ bs) room k at columns =
+    cases (ltb (room - columns) (length (shown_byte b)))
+    (λ e. rw e)
+    (λ e. rw e (forth-moved bs room k (suc at) (columns + length (shown_byte b)) ∙ ap (λ (n : ℕ). forth_from bs room n (columns + length (shown_byte b))) (omega arith)))
 
-  pub back_more : (at columns : ℕ) → 0 < at → length (shown_byte (get_or x (at - 1) 0)) ≤ room - columns
-      → back_from x room at columns ≡ back_from x room (at - 1) (columns + length (shown_byte (get_or x (at - 1) 0)))
-  back_more zero columns z h = absurd (omega arith)
-  back_more (suc at) columns z h =
-      let e : suc at - 1 ≡ at = omega arith in
-      rw (e, le-ltb (room - columns) (length (shown_byte (get_or x at 0))) (rw e at h))
+-- back from a place: forth over the bytes before it, the last of them first
+pub back-reversed : (x : Text) (room at n columns : ℕ) → at ≤ length x
+    → record { at = at + n - (forth_from (reverse (take at x)) room n columns).at; columns = (forth_from (reverse (take at x)) room n columns).columns } ≡ back_from x room at columns
+back-reversed x room zero n columns h = let e : 0 + n - n ≡ 0 = omega arith in rw e
+back-reversed x room (suc at) n columns h =
+    let w : ℕ = length (shown_byte (get_or x at 0)) in
+    let b : reverse (take (suc at) x) ≡ get_or x at 0 ∷ reverse (take at x) =
+    ap reverse (take-suc x at 0 (omega arith)) ∙ reverse-append (take at x) (get_or x at 0 ∷ []) in
+    rw b
+    (cases (ltb (room - columns) (length (shown_byte (get_or x at 0))))
+    (λ e. let k : suc at + n - n ≡ suc at = omega arith in rw (e, k))
+    (λ e. let k : suc at + n ≡ at + suc n = omega arith in rw (e, k) (back-reversed x room at (suc n) (columns + w) (omega arith))))
 
-  pub back_end : (at columns : ℕ) → at ≤ 0 → record { at = at; columns = columns } ≡ back_from x room at columns
-  back_end zero columns z = refl
-  back_end (suc at) columns z = absurd (omega arith)
+-- forth over the bytes from place i on
+module _ (x : Text) (room i at columns : ℕ) where
+  pub forth-stop : i < length x → room - columns < length (shown_byte (get_or x i 0)) → record { at = at; columns = columns } ≡ forth_from (drop i x) room at columns
+  forth-stop l h = rw (drop-cons x i 0, lt-ltb (room - columns) (length (shown_byte (get_or x i 0))) h)
 
--- forth from a place
-module _ (x : Text) (room at columns : ℕ) where
-  pub forth-stop : at < length x → room - columns < length (shown_byte (get_or x at 0)) → record { at = at; columns = columns } ≡ forth_from (drop at x) room at columns
-  forth-stop l h = rw (drop-cons x at 0, lt-ltb (room - columns) (length (shown_byte (get_or x at 0))) h)
+  pub forth-more : i < length x → length (shown_byte (get_or x i 0)) ≤ room - columns
+      → forth_from (drop i x) room at columns ≡ forth_from (drop (i + 1) x) room (at + 1) (columns + length (shown_byte (get_or x i 0)))
+  forth-more l h = rw (add-one i, add-one at, drop-cons x i 0, le-ltb (room - columns) (length (shown_byte (get_or x i 0))) h)
 
-  pub forth-more : at < length x → length (shown_byte (get_or x at 0)) ≤ room - columns
-      → forth_from (drop at x) room at columns ≡ forth_from (drop (at + 1) x) room (at + 1) (columns + length (shown_byte (get_or x at 0)))
-  forth-more l h = rw (add-one, drop-cons x at 0, le-ltb (room - columns) (length (shown_byte (get_or x at 0))) h)
+  pub forth-end : length x ≤ i → record { at = at; columns = columns } ≡ forth_from (drop i x) room at columns
+  forth-end h = rw (drop_of_length-le x {i = i} h)
 
-  pub forth-end : length x ≤ at → record { at = at; columns = columns } ≡ forth_from (drop at x) room at columns
-  forth-end h = rw (drop_of_length-le x {i = at} h)
+pub back-passed : (x : Text) (place room : ℕ) (r : Side) → place ≤ length x → r ≡ forth_from (reverse (take place x)) room 0 0
+    → record { at = place - r.at; columns = r.columns } ≡ back x place room
+unfolding back
+back-passed x place room r h e =
+    let k : place + 0 ≡ place = omega arith in
+    rw e (rw k at (back-reversed x room place 0 0 h))
+
+pub forth-passed : (x : Text) (place room : ℕ) (r : Side) → r ≡ forth_from (drop place x) room 0 0
+    → record { at = place + r.at; columns = r.columns } ≡ forth x place room
+unfolding forth
+forth-passed x place room r e =
+    let k : place + 0 ≡ place = omega arith in
+    rw e (forth-moved (drop place x) room place 0 0 ∙ ap (λ (n : ℕ). forth_from (drop place x) room n 0) k)
+
+pub forth-within : (bs : Text) (room at columns : ℕ) → (forth_from bs room at columns).at ≤ at + length bs
+forth-within [] room at columns = omega arith
+forth-within (b ∷ bs) room at columns =
+    cases (ltb (room - columns) (length (shown_byte b))) (λ e. rw e (omega arith)) (λ e. rw e (omega (arith, forth-within bs room (suc at) (columns + length (shown_byte b)))))
 
 -- the two sides that the caret's text has
 pub caret-is : (x : Text) (place : ℕ) (near last first : Side) → near ≡ back x place 36 → last ≡ forth x place (72 - near.columns)
@@ -56,49 +84,23 @@ caret-is x place near last first n l f =
     let e : last ≡ last_of x place = l ∙ ap (λ (s : Side). forth x place (72 - s.columns)) n in
     (λ k. between_text x (f k) last) ∙ (λ k. between_text x (back x place (72 - (e k).columns)) (e k))
 
--- line and column
-module _ (x : Text) (place i : ℕ) where
-  pub spot-more : (s t : Spot) → i < place → place ≤ length x → t ≡ after_byte s (get_or x i 0)
-      → after_bytes s (drop i (take place x)) ≡ after_bytes t (drop (i + 1) (take place x))
-  spot-more s t l h e =
-      ap (after_bytes s) (slice-cons i place x 0 l h)
-      ∙ ap (λ (u : Spot). after_bytes u (drop (suc i) (take place x))) (sym e)
-      ∙ ap (λ (n : ℕ). after_bytes t (drop n (take place x))) (sym (add-one i))
+-- the bracket lies in the text
+pub bracket_within : (x : Text) (before : ℕ) → bracket_at x before ≤ length x
+bracket_within [] before = omega arith
+bracket_within (b ∷ x) zero = grind (arith, bracket_within x zero)
+bracket_within (b ∷ x) (suc before) = omega (arith, bracket_within x (cond (eqb b 91) before (suc before)))
 
-  pub spot-end : (s : Spot) → place ≤ i → place ≤ length x → s ≡ after_bytes s (drop i (take place x))
-  spot-end s l h = rw (drop_of_length-le (take place x) {i = i} (omega (arith, length-take-le place x h)))
+-- the arrays before a node
+range-more : (a n : ℕ) → range_with_len a (suc n) ≡ range_with_len a n ++ ((a + n) ∷ [])
+range-more a zero = rw add-zero
+range-more a (suc n) = ap (λ (l : List ℕ). a ∷ l) (range-more (a + 1) n ∙ ap (λ (k : ℕ). range_with_len (a + 1) n ++ (k ∷ [])) (omega arith))
 
--- brackets
-module _ (x : Text) (i : ℕ) where
-  pub bracket-here : i < length x → get_or x i 0 ≡ 91 → bracket_at (drop i x) 0 ≡ 0
-  bracket-here l e = rw (drop-cons x i 0, e)
+length-filter-one : (p : ℕ → Bool) (k : ℕ) → length (filter p (k ∷ [])) ≡ cond (p k) 1 0
+length-filter-one p k = cases (p k) (λ e. rw e) (λ e. rw e)
 
-  pub bracket-passed : (left : ℕ) → i < length x → get_or x i 0 ≡ 91 → (left ≡ 0 → ⊥) → bracket_at (drop i x) left ≡ suc (bracket_at (drop (i + 1) x) (left - 1))
-  bracket-passed zero l e z = absurd (z refl)
-  bracket-passed (suc left) l e z =
-      let less : suc left - 1 ≡ left = omega arith in
-      rw (add-one, less, drop-cons x i 0, e)
-
-  pub other-passed : (left : ℕ) → i < length x → (get_or x i 0 ≡ 91 → ⊥) → bracket_at (drop i x) left ≡ suc (bracket_at (drop (i + 1) x) left)
-  other-passed zero l e = rw (add-one, drop-cons x i 0, ne_eqb (get_or x i 0) 91 e)
-  other-passed (suc left) l e = rw (add-one, drop-cons x i 0, ne_eqb (get_or x i 0) 91 e)
-
-  pub bracket-none : (left : ℕ) → length x ≤ i → bracket_at (drop i x) left ≡ 0
-  bracket-none left h = rw (drop_of_length-le x {i = i} h)
-
-pub arrays-more : (ws : Words) (n k : ℕ) → k ≡ cond (eqb (kind_at ws n) (kind_number array)) 1 0 → arrays_before ws n + k ≡ arrays_before ws (n + 1)
-arrays-more ws n k e = rw (add-one, e)
-
--- where a node's text starts, by its kind
-module _ (x : Text) (ws : Words) (node kind : ℕ) (is : kind ≡ kind_at ws node) where
-  pub start-array : (before place : ℕ) → kind ≡ kind_number array → before ≡ arrays_before ws node → place ≡ bracket_at x before → place ≡ start_of x ws node
-  unfolding start_of
-  start-array before place k b p = rw (← is, k) (p ∙ ap (bracket_at x) b)
-
-  pub start-string : (from place : ℕ) → kind ≡ string_kind → from ≡ from_at ws node → place ≡ min (from - 1) (length x) → place ≡ start_of x ws node
-  unfolding start_of
-  start-string from place k f p = rw (← is, k) (p ∙ ap (λ (n : ℕ). min (n - 1) (length x)) f)
-
-  pub start-other : (from place : ℕ) → (kind ≡ kind_number array → ⊥) → (kind ≡ string_kind → ⊥) → from ≡ from_at ws node → place ≡ min from (length x) → place ≡ start_of x ws node
-  unfolding start_of
-  start-other from place a s f p = rw (← is, ne_eqb kind (kind_number array) a, ne_eqb kind string_kind s) (p ∙ ap (λ (n : ℕ). min n (length x)) f)
+pub arrays-counted : (ws : Words) (n : ℕ) → length (filter (λ (i : ℕ). eqb (kind_at ws i) (kind_number array)) (range_with_len 0 n)) ≡ arrays_before ws n
+arrays-counted ws zero = refl
+arrays-counted ws (suc n) =
+    let p : ℕ → Bool = λ (i : ℕ). eqb (kind_at ws i) (kind_number array) in
+    ap (λ (l : List ℕ). length (filter p l)) (range-more 0 n)
+    ∙ rw (filter-append, length-append) (rw (arrays-counted ws n, length-filter-one p (0 + n), zero-add n))

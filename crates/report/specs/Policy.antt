@@ -8,6 +8,8 @@ use Rattle.cel_policy.specs.Policy.{Span, Counted, skip, full, exclusions}
 use Rattle.cel_policy.specs.Spans.{spans_at}
 use Rattle.cel_policy.specs.Answers.{Printing, written, unprinted, find_print}
 use Rattle.page.specs.Page.{shown, said}
+use Rattle.report.specs.declared.policy.List.{List as Certified}
+use Rattle.report.specs.declared.policy.List.TheVariants.{RequestHeaders, QueryParameters, ResponseInclusions, ResponseExclusions}
 use Rattle.report.specs.Words.{message}
 
 unfoldable pub form_text : (form : ℕ) → Text
@@ -29,6 +31,13 @@ string_text x from to =
 abbrev pub strings_text : Text → List Span → Text
 strings_text x [] = []
 strings_text x (s ∷ more) = string_text x s.from s.to ⧺ strings_text x more
+
+-- the lists by their numbers
+abbrev pub number_of : Certified → ℕ
+number_of RequestHeaders = 0
+number_of QueryParameters = 1
+number_of ResponseInclusions = 2
+number_of ResponseExclusions = 3
 
 -- two titles for each list: without strings, and with some. The lists: request headers, query parameters, response headers that are certified, and
 -- that are not

@@ -13,6 +13,7 @@ ghost use Rattle.report.specs.Report.{reported};
 
 use ast_mapping::SPAN_WORDS;
 use parser::NODE_WORDS;
+use policy::Accepted;
 
 // Puts the report on a text at the start of `out`, and answers the place after it. Where there is less room than the report has
 // bytes, its end is cut off.
@@ -26,6 +27,10 @@ pub fn report(text: &[u8], out: &mut [u8]) -> usize
     if answer.refusal != parser::ACCEPTED {
         return refusal::put_refusal(out, 0, answer, text, &nodes);
     }
-    let policy = read.policy;
-    policy::put_policy(out, 0, answer, policy, text, &spans)
+    let accepted = Accepted {
+        policy: read.policy,
+        text,
+        spans: &spans,
+    };
+    accepted.put(out, 0, answer)
 }

@@ -1,86 +1,56 @@
 // Where a node's text starts: a string's at its opening quote, an array's at its bracket, another's at its name, or at its opener
 // where it has none.
-ghost use Rattle.std.specs.Prelude.{◌≡◌, ◌≤◌, ◌-◌, cond, length, eqb};
-ghost use Rattle.cel_text.specs.Tree.{array};
-ghost use Rattle.cel_text.specs.Table.{kind_number};
+ghost use Rattle.std.specs.Prelude.{◌≡◌};
 ghost use Rattle.report.specs.Node.{kind_at, arrays_before, bracket_at, start_of};
 
-use crate::window;
+use crate::window::Mark;
+use parser::Node;
 use parser::row::read_row;
-use parser::{Node, Place};
 
 // A node's kind.
+#[tactic(auto, unfolding(crate::specs::Node::kind_at))]
 pub(crate) fn kind(table: &[u32], node: Node) -> u32
     ensures { result ≡ kind_at table.now node.0 }
 {
-    let row = read_row(table, node);
-    row.kind
-}
-
-fn count_array(table: &[u32], node: Node) -> usize
-    ensures value { result ≡ cond (eqb (kind_at table.now node.0) (kind_number array)) 1 0 }
-    ensures upper_bound { result ≤ 1 }
-{
-    if kind(table, node) == parser::ARRAY {
-        return 1;
-    }
-    0
+    read_row(table, node).kind
 }
 
 // How many arrays stand before a node.
 fn arrays_before(table: &[u32], node: Node) -> usize
     ensures { result ≡ arrays_before table.now node.0 }
 {
-    let end = node.0;
-    let mut count = 0;
-    let mut i = 0;
-    while i < end {
-        count += count_array(table, Node(i));
-        i += 1;
-    }
-    count
+    (0..node.0)
+        .filter(|i| kind(table, Node(*i)) == parser::ARRAY)
+        .count()
 }
 
-// The bracket that so many stand before. Up to the end of the first value a `[` opens an array wherever it stands, and arrays are
-// numbered in the order of their openers: so this is where the array opens that so many arrays stand before.
-fn bracket(text: &[u8], before: usize) -> Place
-    ensures result_value { result.0 ≡ bracket_at text.now before }
-    ensures result_in_bounds { result.0 ≤ length text.now }
+// The place of the bracket that so many stand before, or the text's end. Up to the end of the first value a `[` opens an array wherever
+// it stands, and arrays are numbered in the order of their openers: so this is where the array opens that so many arrays stand before.
+fn bracket(text: &[u8], before: usize) -> usize
+    ensures { result ≡ bracket_at text.now before }
 {
     let mut left = before;
-    let mut i = 0;
-    while i < text.len() {
-        if text[i] == b'[' {
+    for (i, b) in text.iter().enumerate() {
+        if *b == b'[' {
             if left == 0 {
-                return Place(i);
+                return i;
             }
             left -= 1;
         }
-        i += 1;
     }
-    Place(i)
+    text.len()
 }
 
-// The place before one, or 0.
-fn before(i: usize) -> usize
-    ensures { result ≡ i - 1 }
-{
-    if i == 0 {
-        return 0;
-    }
-    i - 1
-}
-
-pub(crate) fn start(text: &[u8], table: &[u32], node: Node) -> Place
-    ensures result_value { result.0 ≡ start_of text.now table.now node.0 }
-    ensures result_in_bounds { result.0 ≤ length text.now }
+#[tactic(auto, using(crate::proofs::Walks::bracket_within), unfolding(crate::specs::Node::kind_at, crate::specs::Node::from_at, crate::specs::Node::start_of))]
+pub(crate) fn start<'a>(text: &'a [u8], table: &[u32], node: Node) -> Mark<'a>
+    ensures text { result.text.now ≡ text.now }
+    ensures place { result.place.0 ≡ start_of text.now table.now node.0 }
 {
     let row = read_row(table, node);
-    let kind = row.kind;
-    let from = row.from;
-    match kind {
-        parser::ARRAY => bracket(text, arrays_before(table, node)),
-        parser::STRING => window::within(text, before(from.0)),
-        _ => window::within(text, from.0),
+    let from = row.from.0;
+    match row.kind {
+        parser::ARRAY => Mark::within(text, bracket(text, arrays_before(table, node))),
+        parser::STRING => Mark::within(text, from.saturating_sub(1)),
+        _ => Mark::within(text, from),
     }
 }

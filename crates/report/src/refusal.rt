@@ -5,13 +5,15 @@ ghost use Rattle.pieces.specs.Pieces.{Wrote};
 ghost use Rattle.report.specs.Refusal.{message_number, reading_text, instead_text, wrong_text, no_argument_text, no_property_text, choice_text};
 ghost use Rattle.report.specs.Refusal.{owner as ownerOf, mapping_text, refusal_text};
 
+use crate::node;
+use crate::window::Mark;
 use crate::words::{put_expected, put_found, put_message};
-use crate::{node, window};
 use ast_mapping::name;
 use page::say;
 use parser::{Answer, Node};
 
 // Two more messages of the syntax, after those of refusals 1 to 6: at the text's end, and at its first byte.
+// Numbers, since a refusal's own message goes by its number: an enum of the two would need a variant round that.
 const AT_THE_END: u32 = 7;
 
 const AT_THE_START: u32 = 8;
@@ -20,16 +22,11 @@ const AT_THE_START: u32 = 8;
 fn message(refusal: u32, i: usize, long: usize) -> u32
     ensures { result ≡ message_number refusal i long }
 {
-    if refusal != parser::SYNTAX {
-        return refusal;
+    match refusal {
+        parser::SYNTAX if i == long => AT_THE_END,
+        parser::SYNTAX if i == 0 => AT_THE_START,
+        _ => refusal,
     }
-    if i == long {
-        return AT_THE_END;
-    }
-    if i == 0 {
-        return AT_THE_START;
-    }
-    refusal
 }
 
 // What refusals 1 to 6 mean.
@@ -102,6 +99,7 @@ fn put_no_property(out: &mut [u8], at: usize, name: u32) -> usize
 
 // What is wrong with two properties of which an object must have exactly one: refusals 11 to 16. A list object without headers counts as
 // absent, so of the lists the headers are spoken of.
+#[tactic(auto, unfolding(crate::specs::Refusal::choice_text))]
 fn put_choice(out: &mut [u8], at: usize, refusal: u32) -> usize
     ensures { Wrote out.old out.new at result (choice_text refusal) }
 {
@@ -116,6 +114,7 @@ fn put_choice(out: &mut [u8], at: usize, refusal: u32) -> usize
 }
 
 // What refusals 7 to 16 mean.
+#[tactic(auto, unfolding(crate::specs::Refusal::mapping_text))]
 fn put_mapping(out: &mut [u8], at: usize, answer: Answer, found: u32) -> usize
     ensures { Wrote out.old out.new at result (mapping_text (told answer) found) }
 {
@@ -149,13 +148,12 @@ pub(crate) fn put_refusal(
     ensures { Wrote out.old out.new at result (refusal_text text.now table.now (told answer)) }
 {
     let end = say(out, at, b"Refused (#): ", answer.refusal as usize);
-    let number = answer.place as usize;
     if answer.refusal <= parser::TOO_MANY {
-        let place = window::within(text, number);
-        let end = put_reading(out, end, answer.refusal, place.0, text.len());
-        return window::put_byte_place(out, end, text, place);
+        let mark = Mark::within(text, answer.place as usize);
+        let end = put_reading(out, end, answer.refusal, mark.place.0, text.len());
+        return mark.put_byte_place(out, end);
     }
-    let node = Node(number);
+    let node = Node(answer.place as usize);
     let end = put_mapping(out, end, answer, node::kind(table, node));
-    window::put_node_place(out, end, text, node, node::start(text, table, node))
+    node::start(text, table, node).put_node_place(out, end, node)
 }

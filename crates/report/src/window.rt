@@ -1,7 +1,9 @@
 // The part of a text around a place, on one line, with a caret under the place.
 ghost use Rattle.std.specs.Prelude.{◌≡◌, ◌≤◌, ◌<◌, ◌+◌, ◌^◌, min, length};
+ghost use Rattle.std.specs.Iterator.{AlwaysYields, IsFinite};
+ghost use Rattle.cel_text.specs.Byte.{Text};
 ghost use Rattle.pieces.specs.Pieces.{Wrote};
-ghost use Rattle.report.specs.Window.{back as Back, forth as Forth, margin_text, end_text, caret_text, after_byte, spot_of, spot_text, place_text};
+ghost use Rattle.report.specs.Window.{back as Back, forth as Forth, forth_from, margin_text, end_text, caret_text, after_byte, spot_of, spot_text, place_text};
 ghost use Rattle.report.specs.Window.{byte_place_text, node_place_text};
 
 use crate::words::put_part;
@@ -30,47 +32,114 @@ struct Spot {
     column: usize,
 }
 
-// A place that is no further than the text's end.
-pub(crate) fn within(text: &[u8], i: usize) -> Place
-    ensures { result.0 ≡ min i (length text.now) }
-{
-    if i < text.len() {
-        return Place(i);
-    }
-    Place(text.len())
+// A place in a text, no further than its end.
+#[derive(Clone, Copy)]
+pub(crate) struct Mark<'a> {
+    pub text: &'a [u8],
+    pub place: Place,
+    ghost inside: { place.0 ≤ length text.now },
 }
 
-// As far back from the place as this many columns reach.
-fn back(text: &[u8], place: Place, room: usize) -> Side
-    requires { place.0 ≤ length text.now }
-    ensures value { result ≡ Back text.now place.0 room }
-    ensures columns_le_room { result.columns ≤ room }
-{
-    let mut at = place.0;
-    let mut columns = 0;
-    while at > 0 {
-        let more = page::columns(text[at - 1]);
-        if room - columns < more {
-            return Side { at, columns };
+impl<'a> Mark<'a> {
+    // The place, or the text's end where that comes first.
+    pub(crate) fn within(text: &'a [u8], i: usize) -> Mark<'a>
+        ensures text { result.text.now ≡ text.now }
+        ensures place { result.place.0 ≡ min i (length text.now) }
+    {
+        Mark {
+            text,
+            place: Place(i.min(text.len())),
         }
-        columns += more;
-        at -= 1;
     }
-    Side { at, columns }
+
+    // As far back from the place as this many columns reach.
+    fn back(self, room: usize) -> Side
+        ensures value { result ≡ Back self.entry.text.now self.entry.place.0 room }
+        ensures columns_le_room { result.columns ≤ room }
+    {
+        let passed = pass(self.text[..self.place.0].iter().rev(), room);
+        Side {
+            at: self.place.0 - passed.at,
+            ..passed
+        }
+    }
+
+    // As far forth from the place as this many columns reach.
+    fn forth(self, room: usize) -> Side
+        ensures value { result ≡ Forth self.entry.text.now self.entry.place.0 room }
+        ensures columns_le_room { result.columns ≤ room }
+    {
+        let passed = pass(self.text[self.place.0..].iter(), room);
+        Side {
+            at: self.place.0 + passed.at,
+            ..passed
+        }
+    }
+
+    // Its line and column.
+    #[tactic(auto, unfolding(crate::specs::Window::spot_of))]
+    fn spot(self) -> Spot
+        ensures { result ≡ spot_of self.entry.text.now self.entry.place.0 }
+    {
+        let mut spot = Spot { line: 1, column: 1 };
+        for b in &self.text[..self.place.0] {
+            spot = after(spot, *b);
+        }
+        spot
+    }
+
+    fn put_place(self, out: &mut [u8], at: usize) -> usize
+        ensures { Wrote out.old out.new at result (place_text self.entry.text.now self.entry.place.0) }
+    {
+        let end = say(out, at, b"byte #\n", self.place.0);
+        put_spot(out, end, self.spot())
+    }
+
+    // The text's line and the beginning of the caret's, up to what is said of the place.
+    fn put_caret(self, out: &mut [u8], at: usize) -> usize
+        ensures { Wrote out.old out.new at result (caret_text self.entry.text.now self.entry.place.0) }
+    {
+        let near = self.back(HALF);
+        let last = self.forth(WIDE - near.columns);
+        let first = self.back(WIDE - last.columns);
+        let end = put_margin(out, at, first.at);
+        let end = put_part(out, end, self.text, first.at, last.at);
+        let end = put_end(out, end, last.at < self.text.len());
+        let end = page::put_spaces(out, end, MARGIN + first.columns);
+        say(out, end, b"^ ", 0)
+    }
+
+    // The part around a byte, which the place is.
+    pub(crate) fn put_byte_place(self, out: &mut [u8], at: usize) -> usize
+        ensures { Wrote out.old out.new at result (byte_place_text self.entry.text.now self.entry.place.0) }
+    {
+        let end = self.put_caret(out, at);
+        self.put_place(out, end)
+    }
+
+    // The part around a node, whose text starts at the place.
+    pub(crate) fn put_node_place(self, out: &mut [u8], at: usize, node: Node) -> usize
+        ensures { Wrote out.old out.new at result (node_place_text self.entry.text.now node.0 self.entry.place.0) }
+    {
+        let end = self.put_caret(out, at);
+        let end = say(out, end, b"node #, ", node.0);
+        self.put_place(out, end)
+    }
 }
 
-// As far forth from the place as this many columns reach.
-fn forth(text: &[u8], place: Place, room: usize) -> Side
-    requires { place.0 ≤ length text.now }
-    ensures value { result ≡ Forth text.now place.0 room }
+// How many of these bytes this many columns reach, and the columns that they take.
+fn pass<'a, I: Iterator<Item = &'a u8> + Drop>(bytes: I, room: usize) -> Side
+    requires can { I.can_next bytes }
+    requires finite { IsFinite (I.remaining bytes) }
+    ensures value { (all : Text) → AlwaysYields I.next_gives (λ b. b.now) bytes all → result ≡ forth_from all room 0 0 }
     ensures columns_le_room { result.columns ≤ room }
 {
-    let mut at = place.0;
+    let mut at = 0;
     let mut columns = 0;
-    while at < text.len() {
-        let more = page::columns(text[at]);
+    for b in bytes {
+        let more = page::columns(*b);
         if room - columns < more {
-            return Side { at, columns };
+            break;
         }
         columns += more;
         at += 1;
@@ -79,6 +148,7 @@ fn forth(text: &[u8], place: Place, room: usize) -> Side
 }
 
 // The beginning of the text's line: the margin.
+#[tactic(auto, unfolding(crate::specs::Window::margin_text))]
 fn put_margin(out: &mut [u8], at: usize, from: usize) -> usize
     ensures { Wrote out.old out.new at result (margin_text from) }
 {
@@ -89,6 +159,7 @@ fn put_margin(out: &mut [u8], at: usize, from: usize) -> usize
 }
 
 // The end of the text's line, with a mark where the text goes on.
+#[tactic(auto, unfolding(crate::specs::Window::end_text))]
 fn put_end(out: &mut [u8], at: usize, more: bool) -> usize
     ensures { Wrote out.old out.new at result (end_text more) }
 {
@@ -111,23 +182,9 @@ fn after(spot: Spot, b: u8) -> Spot
         };
     }
     Spot {
-        line: spot.line,
         column: spot.column + 1,
+        ..spot
     }
-}
-
-fn spot_of(text: &[u8], place: Place) -> Spot
-    requires { place.0 ≤ length text.now }
-    ensures { result ≡ spot_of text.now place.0 }
-{
-    let mut spot = Spot { line: 1, column: 1 };
-    let end = place.0;
-    let mut i = 0;
-    while i < end {
-        spot = after(spot, text[i]);
-        i += 1;
-    }
-    spot
 }
 
 // A line for the line and column of a place that is not in the first line.
@@ -139,52 +196,4 @@ fn put_spot(out: &mut [u8], at: usize, spot: Spot) -> usize
     }
     let end = say(out, at, b"    Line #, column ", spot.line);
     say(out, end, b"#.\n", spot.column)
-}
-
-fn put_place(out: &mut [u8], at: usize, text: &[u8], place: Place) -> usize
-    requires { place.0 ≤ length text.now }
-    ensures { Wrote out.old out.new at result (place_text text.now place.0) }
-{
-    let end = say(out, at, b"byte #\n", place.0);
-    put_spot(out, end, spot_of(text, place))
-}
-
-// The text's line and the beginning of the caret's, up to what is said of the place.
-fn put_caret(out: &mut [u8], at: usize, text: &[u8], place: Place) -> usize
-    requires { place.0 ≤ length text.now }
-    ensures { Wrote out.old out.new at result (caret_text text.now place.0) }
-{
-    let near = back(text, place, HALF);
-    let last = forth(text, place, WIDE - near.columns);
-    let first = back(text, place, WIDE - last.columns);
-    let end = put_margin(out, at, first.at);
-    let end = put_part(out, end, text, first.at, last.at);
-    let end = put_end(out, end, last.at < text.len());
-    let end = page::put_spaces(out, end, MARGIN + first.columns);
-    say(out, end, b"^ ", 0)
-}
-
-// The part around a byte.
-pub(crate) fn put_byte_place(out: &mut [u8], at: usize, text: &[u8], place: Place) -> usize
-    requires { place.0 ≤ length text.now }
-    ensures { Wrote out.old out.new at result (byte_place_text text.now place.0) }
-{
-    let end = put_caret(out, at, text, place);
-    put_place(out, end, text, place)
-}
-
-// The part around a node, whose text starts at the place.
-pub(crate) fn put_node_place(
-    out: &mut [u8],
-    at: usize,
-    text: &[u8],
-    node: Node,
-    place: Place,
-) -> usize
-    requires { place.0 ≤ length text.now }
-    ensures { Wrote out.old out.new at result (node_place_text text.now node.0 place.0) }
-{
-    let end = put_caret(out, at, text, place);
-    let end = say(out, end, b"node #, ", node.0);
-    put_place(out, end, text, place)
 }

@@ -5,8 +5,6 @@ ghost use Rattle.pieces.specs.Pieces.{Wrote};
 ghost use Rattle.page.specs.Page.{shown};
 ghost use Rattle.report.specs.Words.{message, found_text, expected_text};
 
-use crate::window::within;
-
 // What has this number in a line, with a number in place of `#`.
 pub(crate) fn put_message(out: &mut [u8], at: usize, line: &[u8], number: u32, n: usize) -> usize
     ensures { Wrote out.old out.new at result (message line.now number n) }
@@ -17,6 +15,7 @@ pub(crate) fn put_message(out: &mut [u8], at: usize, line: &[u8], number: u32, n
 }
 
 // What a node is.
+#[tactic(auto, unfolding(crate::specs::Words::found_text))]
 pub(crate) fn put_found(out: &mut [u8], at: usize, kind: u32) -> usize
     ensures { Wrote out.old out.new at result (found_text kind) }
 {
@@ -24,6 +23,7 @@ pub(crate) fn put_found(out: &mut [u8], at: usize, kind: u32) -> usize
 }
 
 // What a node should be, up to the name.
+#[tactic(auto, unfolding(crate::specs::Words::expected_text))]
 pub(crate) fn put_expected(out: &mut [u8], at: usize, kind: u32) -> usize
     ensures { Wrote out.old out.new at result (expected_text kind) }
 {
@@ -38,10 +38,8 @@ pub(crate) fn put_expected(out: &mut [u8], at: usize, kind: u32) -> usize
 pub(crate) fn put_part(out: &mut [u8], at: usize, text: &[u8], from: usize, to: usize) -> usize
     ensures { Wrote out.old out.new at result (shown (slice from to text.now)) }
 {
-    let place = within(text, to);
-    let end = place.0;
-    if end < from {
-        return at;
+    match text.get(from..to.min(text.len())) {
+        Some(part) => page::put(out, at, part),
+        None => at,
     }
-    page::put(out, at, &text[from..end])
 }

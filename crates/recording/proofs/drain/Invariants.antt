@@ -1,14 +1,11 @@
 -- `drain` meets its contract: each turn of its loop is a step of the definition's. Assumes nothing.
-use mathlib.Core.Path.{◌≡◌}
 use Prim.Native.Nat.{◌-◌}
 use lib.ListN.{length}
-use Rattle.cel_text.specs.Table.{node_words}
-use Rattle.cel_policy.specs.Spans.{span_words}
 use Rattle.recording.proofs.Turns.{Going}
 use Rattle.recording.proofs.drain.Given as goal
 
 abbrev pub invariant-loop-out : goal.invariant-loop-out
-invariant-loop-out l = Going l.initial.turn.state l.held l.ended l.initial.out l.out l.turn × (length l.nodes ≡ node_words) × (length l.spans ≡ span_words)
+invariant-loop-out l = Going l.initial.turn.state l.held l.ended l.initial.out l.out l.turn
 
 abbrev pub decreases-loop-out : goal.decreases-loop-out
 decreases-loop-out l = length l.held - l.turn.used

@@ -1,5 +1,5 @@
 -- One event: what is written for it and what is owed after it is what was owed before, whatever bytes come; and how far it goes. Assumes nothing.
-use Rattle.std.specs.Prelude.{◌≡◌, refl, ℕ, suc, ◌+◌, ◌-◌, ◌≤◌, ◌<◌, Bool, true, false, cond, [], ◌∷◌, ◌++◌, length, take, drop, ltb, eqb}
+use Rattle.std.specs.Prelude.{◌≡◌, refl, ℕ, suc, ◌+◌, ◌-◌, ◌≤◌, ◌<◌, Bool, true, false, cond, [], ◌∷◌, ◌++◌, length, take, drop, ltb, eqb, Result, Ok, Err}
 use Rattle.std.proofs.Common.{sym, ap, subst, ◌∙◌, arith, append-nil, length-append, length-drop, length-take-le, drop-drop, lt-ltb, le-ltb, ltb-true, ltb-false, ne_eqb, eqb-true}
 use Rattle.std.proofs.lemmas.List.{take-append-le, drop-append-le}
 use Rattle.std.proofs.Math.Seq.{drop-append-add, drop-length}
@@ -10,11 +10,12 @@ use Rattle.cel_text.specs.Answer.{max_text}
 use Rattle.cel_text.proofs.Laws.Class.{by-test}
 use Rattle.cel_policy.specs.Answers.{policy_answer}
 use Rattle.groups.specs.declared.Number.{Number}
-use Rattle.groups.specs.declared.Number.TheVariants.{Whole, Cut, Padded, TooMany}
-use Rattle.groups.specs.Groups.{number}
+use Rattle.groups.specs.declared.Fault.{Fault}
+use Rattle.groups.specs.declared.Fault.TheVariants.{Cut, Padded, TooMany}
+use Rattle.groups.specs.Groups.{whole, number}
 use Rattle.groups.specs.Laws.{Settled, number_append, Fits, number_fits}
 use Rattle.recording.specs.declared.Ending.TheVariants.{Complete, BrokenLength, BrokenBody}
-use Rattle.recording.specs.declared.Reply.{Reply}
+use Rattle.recording.specs.declared.reply.Reply.{Reply}
 use Rattle.recording.specs.declared.State.{State}
 use Rattle.recording.specs.declared.window.Event.{Event}
 use Rattle.recording.specs.declared.window.Event.TheVariants.{Body, Skipping, Skipped, Wanting, Last}
@@ -47,26 +48,26 @@ past-long i r n z false e h =
 -- between two records
 module _ (i r : ℕ) (w y : Text) where
   whole-record :
-      (n size : ℕ) → number w ≡ Whole n size
+      (n size : ℕ) → number w ≡ whole n size
       → lines_of i r (records (w ++ y)) ≡ lines_of i r (body_then records n (drop size w ++ y) (ltb (length (drop size w ++ y)) n))
   whole-record n size e =
-      let f : Fits 2 (length w) (Whole n size) = subst (Fits 2 (length w)) e (number_fits w) in
-      let a : number (w ++ y) ≡ Whole n size = number_append w y (rw e tt) ∙ e in
+      let f : Fits 2 (length w) (whole n size) = subst (Fits 2 (length w)) e (number_fits w) in
+      let a : number (w ++ y) ≡ whole n size = number_append w y (rw e tt) ∙ e in
       let p : 1 ≤ length (w ++ y) = simp length-append (omega (arith, f.0, f.1)) in
       let d : drop size (w ++ y) ≡ drop size w ++ y = drop-append-le size w y f.1 in
-      ap (lines_of i r) (records-number (w ++ y) (Whole n size) a p) ∙ ap (λ (z : Text). lines_of i r (body_then records n z (ltb (length z) n))) d
+      ap (lines_of i r) (records-number (w ++ y) (whole n size) a p) ∙ ap (λ (z : Text). lines_of i r (body_then records n z (ltb (length z) n))) d
 
-  long-right : (n size : ℕ) → number w ≡ Whole n size → max_text < n → Right (at i r 0) w y (Skipping size n)
+  long-right : (n size : ℕ) → number w ≡ whole n size → max_text < n → Right (at i r 0) w y (Skipping size n)
   long-right n size e h =
       whole-record n size e ∙ rw (ne_eqb n 0 (λ q. omega arith)) (past-long i r n (drop size w ++ y) (ltb (length (drop size w ++ y)) n) refl h)
 
-  short-right : (n size : ℕ) → number w ≡ Whole n size → length w < size + n → y ≡ [] → Right (at i r 0) w y (Last BrokenBody)
+  short-right : (n size : ℕ) → number w ≡ whole n size → length w < size + n → y ≡ [] → Right (at i r 0) w y (Last BrokenBody)
   short-right n size e h z =
-      let f : Fits 2 (length w) (Whole n size) = subst (Fits 2 (length w)) e (number_fits w) in
+      let f : Fits 2 (length w) (whole n size) = subst (Fits 2 (length w)) e (number_fits w) in
       let l : length (drop size w ++ y) < n = rw (z, append-nil) (simp length-drop (omega (arith, f.1))) in
       whole-record n size e ∙ rw (lt-ltb (length (drop size w ++ y)) n l, append-nil)
 
-  body-right : (n size : ℕ) → number w ≡ Whole n size → size + n ≤ length w → Right (at i r 0) w y (Body size (size + n))
+  body-right : (n size : ℕ) → number w ≡ whole n size → size + n ≤ length w → Right (at i r 0) w y (Body size (size + n))
   body-right n size e h =
       let k : n ≤ length (drop size w) = simp length-drop (omega arith) in
       let l : n ≤ length (drop size w ++ y) = simp (length-append, length-drop) (omega arith) in
@@ -76,14 +77,14 @@ module _ (i r : ℕ) (w y : Text) where
       whole-record n size e ∙ rw (le-ltb (length (drop size w ++ y)) n l, t, d, m)
 
   fault-right :
-      (q : Number) → number w ≡ q → Settled q → 1 ≤ length w → lines_of i r (record_then records (w ++ y) q) ≡ last_line i r BrokenLength
+      (q : Result Number Fault) → number w ≡ q → Settled q → 1 ≤ length w → lines_of i r (record_then records (w ++ y) q) ≡ last_line i r BrokenLength
       → Right (at i r 0) w y (Last BrokenLength)
   fault-right q e h p g =
       let a : number (w ++ y) ≡ q = number_append w y (rw e h) ∙ e in
       ap (lines_of i r) (records-number (w ++ y) q a (simp length-append (omega arith))) ∙ g ∙ sym (append-nil (last_line i r BrokenLength))
 
-  cut_right : number w ≡ Cut → 1 ≤ length w → y ≡ [] → Right (at i r 0) w y (Last BrokenLength)
-  cut_right e p z = rw (z, append-nil, append-nil) (ap (lines_of i r) (records-number w Cut e p))
+  cut_right : number w ≡ Err Cut → 1 ≤ length w → y ≡ [] → Right (at i r 0) w y (Last BrokenLength)
+  cut_right e p z = rw (z, append-nil, append-nil) (ap (lines_of i r) (records-number w (Err Cut) e p))
 
 over-right : (i r : ℕ) (w y : Text) → length w ≡ 0 → y ≡ [] → Right (at i r 0) w y (Last Complete)
 over-right i r [] y e z = rw (z, append-nil) (ap (lines_of i r) (records-next []))
@@ -94,21 +95,23 @@ module _ (i r : ℕ) (w y : Text) (ended : Bool) (no_more : ended ≡ true → y
   abbrev R : Event → Type 0
   R = Right (at i r 0) w y
 
-  number-right : (q : Number) → number w ≡ q → R (length_event (length w) ended q)
-  number-right (Whole n size) e =
+  number-right : (q : Result Number Fault) → number w ≡ q → R (length_event (length w) ended q)
+  number-right (Ok q) e =
+      let n : ℕ = q.value in
+      let size : ℕ = q.size in
       by-test R (ltb max_text n) (Skipping size n) (cond (ltb (length w) (size + n)) (unless ended (Last BrokenBody)) (Body size (size + n)))
       (λ t. long-right i r w y n size e (ltb-true max_text n t))
       (λ t. by-test R (ltb (length w) (size + n)) (unless ended (Last BrokenBody)) (Body size (size + n))
       (λ u. by-test R ended (Last BrokenBody) Wanting (λ v. short-right i r w y n size e (ltb-true (length w) (size + n) u) (no_more v)) (λ v. refl))
       (λ u. body-right i r w y n size e (ltb-false (length w) (size + n) u)))
-  number-right Cut e =
+  number-right (Err Cut) e =
       by-test R ended (cond (eqb (length w) 0) (Last Complete) (Last BrokenLength)) Wanting
       (λ v. by-test R (eqb (length w) 0) (Last Complete) (Last BrokenLength)
       (λ u. over-right i r w y (eqb-true (length w) 0 u) (no_more v))
       (λ u. cut_right i r w y e (omega (arith, eqb-false (length w) 0 u)) (no_more v)))
       (λ v. refl)
-  number-right Padded e = fault-right i r w y Padded e tt (subst (Fits 2 (length w)) e (number_fits w)) refl
-  number-right TooMany e = fault-right i r w y TooMany e tt (subst (Fits 2 (length w)) e (number_fits w)) refl
+  number-right (Err Padded) e = fault-right i r w y (Err Padded) e tt (subst (Fits 2 (length w)) e (number_fits w)) refl
+  number-right (Err TooMany) e = fault-right i r w y (Err TooMany) e tt (subst (Fits 2 (length w)) e (number_fits w)) refl
 
 -- inside a record that is skipped
 module _ (i r k : ℕ) (w y : Text) (some : k ≡ 0 → ⊥) where
@@ -180,8 +183,10 @@ module _ (w : Text) (ended : Bool) where
   abbrev M : Event → Type 0
   M = Moves (length w) ended
 
-  length-moves : (q : Number) → Fits 2 (length w) q → M (length_event (length w) ended q)
-  length-moves (Whole n size) f =
+  length-moves : (q : Result Number Fault) → Fits 2 (length w) q → M (length_event (length w) ended q)
+  length-moves (Ok q) f =
+      let n : ℕ = q.value in
+      let size : ℕ = q.size in
       by-test M (ltb max_text n) (Skipping size n) (cond (ltb (length w) (size + n)) (unless ended (Last BrokenBody)) (Body size (size + n)))
       (λ t. (f.0, f.1))
       (λ t. by-test M (ltb (length w) (size + n)) (unless ended (Last BrokenBody)) (Body size (size + n))
@@ -189,12 +194,12 @@ module _ (w : Text) (ended : Bool) where
       (λ v. tt)
       (λ v. (v, omega (arith, f.2, ltb-false max_text n t, ltb-true (length w) (size + n) u))))
       (λ u. (omega arith, omega (arith, f.0), ltb-false (length w) (size + n) u)))
-  length-moves Cut f =
+  length-moves (Err Cut) f =
       by-test M ended (cond (eqb (length w) 0) (Last Complete) (Last BrokenLength)) Wanting
       (λ v. by-test M (eqb (length w) 0) (Last Complete) (Last BrokenLength) (λ u. tt) (λ u. tt))
       (λ v. (v, omega arith))
-  length-moves Padded f = tt
-  length-moves TooMany f = tt
+  length-moves (Err Padded) f = tt
+  length-moves (Err TooMany) f = tt
 
   skip-moves : (k : ℕ) → (k ≡ 0 → ⊥) → M (skip_event k (length w) ended)
   skip-moves k some =

@@ -9,7 +9,7 @@ use Rattle.cel_policy.proofs.Laws.Refusals.{policy-refusals, policy-within}
 use Rattle.lines.specs.Laws.{numeral-length, numeral-length-u64}
 use Rattle.recording.specs.declared.Ending.{Ending}
 use Rattle.recording.specs.declared.Ending.TheVariants.{Complete, BrokenLength, BrokenBody}
-use Rattle.recording.specs.declared.Reply.{Reply}
+use Rattle.recording.specs.declared.reply.Reply.{Reply}
 use Rattle.recording.specs.declared.State.{State}
 use Rattle.recording.specs.declared.window.Event.{Event}
 use Rattle.recording.specs.declared.window.Event.TheVariants.{Body, Skipping, Skipped, Wanting, Last}

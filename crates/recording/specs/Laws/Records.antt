@@ -1,9 +1,9 @@
 -- A recording is no byte, or a record and a recording. Assumes nothing.
-use Rattle.std.specs.Prelude.{◌≡◌, refl, ℕ, zero, suc, ◌≤◌, ◌<◌, Bool, true, false, [], ◌∷◌, length, take, drop, ltb}
+use Rattle.std.specs.Prelude.{◌≡◌, refl, ℕ, zero, suc, ◌≤◌, ◌<◌, Bool, true, false, [], ◌∷◌, length, take, drop, ltb, Result, Ok, Err}
 use Rattle.std.proofs.Common.{ap, ◌∙◌, arith, length-drop}
 use Rattle.cel_text.specs.Byte.{Text}
 use Rattle.groups.specs.declared.Number.{Number}
-use Rattle.groups.specs.declared.Number.TheVariants.{Whole, Cut, Padded, TooMany}
+use Rattle.groups.specs.declared.Fault.{Fault}
 use Rattle.groups.specs.Groups.{number}
 use Rattle.groups.specs.Laws.{Fits, number_fits}
 use Rattle.recording.specs.Replay.{Recording, first, body_then, record_then, record_or, records_in, records}
@@ -17,11 +17,9 @@ module _ (f g : Text → Recording) (x : Text) (agree : (y : Text) → length y 
   body-agree n size true h l = refl
   body-agree n size false h l = ap (λ (r : Recording). first (take n (drop size x)) r) (agree (drop n (drop size x)) (shorter-rest n size x h l))
 
-  record-agree : (q : Number) → Fits 2 (length x) q → record_then f x q ≡ record_then g x q
-  record-agree (Whole n size) h = body-agree n size (ltb (length (drop size x)) n) h.0 h.1
-  record-agree Cut h = refl
-  record-agree Padded h = refl
-  record-agree TooMany h = refl
+  record-agree : (q : Result Number Fault) → Fits 2 (length x) q → record_then f x q ≡ record_then g x q
+  record-agree (Ok n) h = body-agree n.value n.size (ltb (length (drop n.size x)) n.value) h.0 h.1
+  record-agree (Err fault) h = refl
 
 either-agree : (f g : Text → Recording) (x : Text) → ((y : Text) → length y < length x → f y ≡ g y) → record_or f x ≡ record_or g x
 either-agree f g [] agree = refl
@@ -43,6 +41,6 @@ records-next x =
     ∙ either-agree (λ (y : Text). records_in (length x) y) records x (λ y s. enough (length x) (length y) y (omega arith) (omega arith))
 
 -- the record at the front
-pub records-number : (x : Text) (q : Number) → number x ≡ q → 1 ≤ length x → records x ≡ record_then records x q
+pub records-number : (x : Text) (q : Result Number Fault) → number x ≡ q → 1 ≤ length x → records x ≡ record_then records x q
 records-number [] q e h = absurd (omega arith)
-records-number (b ∷ x) q e h = records-next (b ∷ x) ∙ ap (λ (r : Number). record_then records (b ∷ x) r) e
+records-number (b ∷ x) q e h = records-next (b ∷ x) ∙ ap (λ (r : Result Number Fault). record_then records (b ∷ x) r) e

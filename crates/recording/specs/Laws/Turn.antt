@@ -6,7 +6,7 @@ use Rattle.std.proofs.Math.ListN.{length, drop, length-drop}
 use borrow.Table.Steps.{cases}
 use Rattle.cel_text.specs.Byte.{Text}
 use Rattle.cel_text.proofs.Laws.Class.{by-test, both_true}
-use Rattle.recording.specs.declared.Reply.{Reply}
+use Rattle.recording.specs.declared.reply.Reply.{Reply}
 use Rattle.recording.specs.declared.State.{State}
 use Rattle.recording.specs.declared.Why.{Why}
 use Rattle.recording.specs.declared.Why.TheVariants.{Wanting as Wants, Full, Over}

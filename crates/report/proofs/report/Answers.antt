@@ -19,4 +19,4 @@ returns c =
     let d = c.read_policy-read in
     let a = policy_told d.result in
     let is = report-is c.args.text.now d.new.nodes d.new.spans a d.ensures.answer d.ensures.nodes d.ensures.spans in
-    rw (← is, eq-eqb d.result.answer.refusal 0 c.if-answer-ne-ACCEPTED.false) c.put_policy.ensures
+    rw (← is, eq-eqb d.result.answer.refusal 0 c.if-answer-ne-ACCEPTED.false) c.put.ensures

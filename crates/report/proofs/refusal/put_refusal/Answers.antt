@@ -11,8 +11,9 @@ unfolding refusal_text
 returns-then-answer-le-TOO_MANY c =
     let r = c.args.answer.refusal in
     let h = c.if-answer-le-TOO_MANY.true in
-    let w = c.within-place.ensures in
-    rw (le-leb r (fault_number too_many) h, ← w) (wrote_then c.say-end.ensures (wrote_then c.put_reading-end.ensures c.put_byte_place.ensures))
+    let w = c.within-mark.ensures.place in
+    let p = rw c.within-mark.ensures.text at c.put_byte_place.ensures in
+    rw (le-leb r (fault_number too_many) h, ← w) (wrote_then c.say-end.ensures (wrote_then c.put_reading-end.ensures p))
 
 pub returns : goal.returns
 unfolding refusal_text
@@ -20,5 +21,6 @@ returns c =
     let r = c.args.answer.refusal in
     let h = c.if-answer-le-TOO_MANY.false in
     let k = c.kind.ensures in
-    let t = c.start.ensures.result_value in
-    rw (lt-leb r (fault_number too_many) h, ← k, ← t) (wrote_then c.say-end.ensures (wrote_then c.put_mapping-end.ensures c.put_node_place.ensures))
+    let t = c.start.ensures.place in
+    let p = rw c.start.ensures.text at c.put_node_place.ensures in
+    rw (lt-leb r (fault_number too_many) h, ← k, ← t) (wrote_then c.say-end.ensures (wrote_then c.put_mapping-end.ensures p))

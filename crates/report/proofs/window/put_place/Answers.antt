@@ -1,8 +1,0 @@
--- `window::put_place` meets its contract: its pieces are those of the definition. Assumes nothing.
-use Rattle.pieces.specs.Laws.{wrote_then}
-use Rattle.report.specs.Window.{place_text}
-use Rattle.report.proofs.window.put_place.Goals as goal
-
-pub returns : goal.returns
-unfolding place_text
-returns c = rw (← c.spot_of.ensures) (wrote_then c.say-end.ensures c.put_spot.ensures)
