@@ -2,7 +2,7 @@
 ghost use Rattle.std.specs.Prelude.{◌≡◌, ℕ, ◌+◌, ◌*◌, ◌^◌, ◌<◌, ◌≤◌, max, length, slice_index};
 ghost use Rattle.cel_text.specs.Byte.{blank, ident_byte, ascii};
 ghost use Rattle.parser.specs.Set.{string_set};
-ghost use Rattle.parser.specs.Run.{class_of, end_of, Spaces, NamedAt, letter};
+ghost use Rattle.parser.specs.Run.{class_of, end_of, Spaces, NamedAt, letter, digit};
 
 use crate::Place;
 
@@ -165,7 +165,7 @@ fn is_ident(b: u8) -> bool
     if is_letter(b) {
         return true;
     }
-    if b.is_ascii_digit() {
+    if is_digit(b) {
         return true;
     }
     b == b'_'
@@ -177,15 +177,28 @@ fn is_string_byte(b: u8) -> bool
     if is_letter(b) {
         return true;
     }
-    if b.is_ascii_digit() {
+    if is_digit(b) {
         return true;
     }
     b == b'-'
 }
 
-// A capital and its small letter differ in bit 5 alone. The library's `is_ascii_alphanumeric` looks for digits first: with it reading takes a fifth more time.
+// A capital and its small letter differ in bit 5 alone.
 fn is_letter(b: u8) -> bool
     ensures { result ≡ letter b }
 {
-    (b | 32).is_ascii_lowercase()
+    let small = b | 32;
+    if small < b'a' {
+        return false;
+    }
+    small <= b'z'
+}
+
+fn is_digit(b: u8) -> bool
+    ensures { result ≡ digit b }
+{
+    if b < b'0' {
+        return false;
+    }
+    b <= b'9'
 }

@@ -6,12 +6,12 @@ use Rattle.parser.proofs.scan.is_string_byte.Goals as goal
 pub returns-then-is_letter : goal.returns-then-is_letter
 returns-then-is_letter c = sym (string-tests c.args.b ∙ rw (sym c.is_letter.ensures ∙ c.if-is_letter.true))
 
-pub returns-then-is_ascii_digit : goal.returns-then-is_ascii_digit
-returns-then-is_ascii_digit c =
+pub returns-then-is_digit : goal.returns-then-is_digit
+returns-then-is_digit c =
     sym (string-tests c.args.b ∙ rw
-    (sym c.is_letter.ensures ∙ c.if-is_letter.false, sym c.is_ascii_digit.ensures.value ∙ c.if-is_ascii_digit.true))
+    (sym c.is_letter.ensures ∙ c.if-is_letter.false, sym c.is_digit.ensures ∙ c.if-is_digit.true))
 
 pub returns : goal.returns
 returns c =
     sym (string-tests c.args.b ∙ rw
-    (sym c.is_letter.ensures ∙ c.if-is_letter.false, sym c.is_ascii_digit.ensures.value ∙ c.if-is_ascii_digit.false))
+    (sym c.is_letter.ensures ∙ c.if-is_letter.false, sym c.is_digit.ensures ∙ c.if-is_digit.false))
