@@ -17,16 +17,7 @@ use Rattle.parser.specs.Run.{end_of}
 use Rattle.parser.specs.Steps.{Valued, root_slot}
 use Rattle.parser.specs.Found.{Finds, Small, answer_of, stale_from}
 
--- ---- refusals 2 and 3, and the value
-
-pub find-long : (x : Text) → max_text < length x → find_tree string_set node_words x ≡ fault 2 max_text
-find-long x h = rw (lt-ltb max_text (length x) h)
-
-pub find-other : (x : Text) (p : ℕ) → length x ≤ max_text → p ≡ end_of ascii x 0 → p < length x → find_tree string_set node_words x ≡ fault 3 p
-find-other x p h e b =
-    let here : p ≡ lead ascii x = e ∙ zero-add (lead ascii x) in
-    let less : lead ascii x < length x = omega arith in
-    rw (le-ltb max_text (length x) h, here, lt-ltb (lead ascii x) (length x) less)
+-- ---- the value
 
 find-read : (x : Text) (p : ℕ) → length x ≤ max_text → p ≡ end_of ascii x 0 → length x ≤ p → find_tree string_set node_words x ≡ found (read string_set limits x)
 find-read x p h e b =

@@ -44,3 +44,7 @@ rows-container w c o from to q kf kt u n m ts k e e' h =
 -- words put side by side
 pub put-sets : (l ws : Words) (i : ℕ) → i + length ws ≤ length l → take i l ++ (ws ++ drop (length ws) (drop i l)) ≡ sets l i ws
 put-sets l ws i h = rw (drop-drop (length ws) i l, sym (append_assoc (take i l) ws (drop (i + length ws) l))) (sym (sets-eq ws l i h))
+
+-- two stores at places that are sums
+pub put_two : (l : Words) (i a b : ℕ) → set (set l (i + 6) a) (i + 7) b ≡ sets l (i + 6) (a ∷ b ∷ [])
+put_two l i a b = let h : i + 7 ≡ suc (i + 6) = omega arith in rw h

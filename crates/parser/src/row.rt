@@ -69,8 +69,9 @@ pub(crate) fn close_row(table: &mut [u32], node: Node, children: usize, past: No
     requires children_bound { (children < 2 ^ 32) × (past.0 < 2 ^ 32) }
     ensures { table.new ≡ sets table.old (row_words * node.0 + 6) (children ∷ past.0 ∷ []) }
 {
-    let at = ROW_WORDS * node.0 + 6;
-    table[at..at + 2].copy_from_slice(&[children as u32, past.0 as u32]);
+    let at = ROW_WORDS * node.0;
+    table[at + 6] = children as u32;
+    table[at + 7] = past.0 as u32;
 }
 
 // The word of a parent with this number.

@@ -2,7 +2,7 @@
 ghost use Rattle.std.specs.Prelude.{◌≡◌, ℕ, ◌+◌, ◌*◌, ◌^◌, ◌<◌, ◌≤◌, max, length, slice_index};
 ghost use Rattle.cel_text.specs.Byte.{blank, ident_byte, ascii};
 ghost use Rattle.parser.specs.Set.{string_set};
-ghost use Rattle.parser.specs.Run.{class_of, end_of, Spaces, NamedAt, letter};
+ghost use Rattle.parser.specs.Run.{class_of, end_of, Spaces, NamedAt, letter, digit};
 
 use crate::Place;
 
@@ -162,18 +162,43 @@ fn is_blank(b: u8) -> bool
 fn is_ident(b: u8) -> bool
     ensures { result ≡ ident_byte b }
 {
-    is_letter(b) || b.is_ascii_digit() || b == b'_'
+    if is_letter(b) {
+        return true;
+    }
+    if is_digit(b) {
+        return true;
+    }
+    b == b'_'
 }
 
 fn is_string_byte(b: u8) -> bool
     ensures { result ≡ string_set b }
 {
-    is_letter(b) || b.is_ascii_digit() || b == b'-'
+    if is_letter(b) {
+        return true;
+    }
+    if is_digit(b) {
+        return true;
+    }
+    b == b'-'
 }
 
-// A capital and its small letter differ in bit 5 alone. The library's `is_ascii_alphanumeric` looks for digits first: with it reading takes a fifth more time.
+// A capital and its small letter differ in bit 5 alone.
 fn is_letter(b: u8) -> bool
     ensures { result ≡ letter b }
 {
-    (b | 32).is_ascii_lowercase()
+    let small = b | 32;
+    if small < b'a' {
+        return false;
+    }
+    small <= b'z'
+}
+
+fn is_digit(b: u8) -> bool
+    ensures { result ≡ digit b }
+{
+    if b < b'0' {
+        return false;
+    }
+    b <= b'9'
 }

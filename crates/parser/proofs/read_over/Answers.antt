@@ -5,7 +5,7 @@ use lib.Seq.{length_front}
 use Rattle.cel_text.specs.Table.{node_words, nodes_left}
 use Rattle.cel_text.specs.Answer.{Answer}
 use Rattle.parser.specs.Found.{stale_from}
-use Rattle.parser.proofs.Answers.{small, find-answer, find-over, answer-short, over-short}
+use Rattle.parser.proofs.Answers.{find-answer, find-over, answer-short, over-short}
 use Rattle.parser.proofs.read_over.Goals as goal
 
 pub returns-then-table-lt-NODE_WORDS : goal.returns-then-table-lt-NODE_WORDS
@@ -19,9 +19,6 @@ slice_bounds-find-end-2 c = sym (length-take-le node_words c.args.table.now c.if
 
 pub find-found-requires : goal.find-found-requires
 find-found-requires c = length-take-le node_words c.args.table.now c.if-table-lt-NODE_WORDS.false
-
-pub answer_of-answer-requires : goal.answer_of-answer-requires
-answer_of-answer-requires c = small _ _ _ c.find-found.result c.find-found.ensures
 
 pub slice_bounds-clear-end-2 : goal.slice_bounds-clear-end-2
 slice_bounds-clear-end-2 c =

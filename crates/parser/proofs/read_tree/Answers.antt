@@ -1,5 +1,5 @@
 -- `read_tree` meets its contract: to read over the cleared words is to read. Assumes nothing.
-use Rattle.std.proofs.Common.{◌≡◌, ◌++◌, length, take, drop, sym, ap, ◌∙◌, length-take-le}
+use Rattle.std.proofs.Common.{◌≡◌, ◌++◌, length, take, drop, ap, ◌∙◌, length-take-le}
 use Rattle.cel_text.specs.Table.{Words, node_words}
 use Rattle.cel_text.specs.Answer.{tree_answer, tree_over}
 use Rattle.cel_text.proofs.Laws.Table.{clean, over-cleared, answer-cleared}
@@ -11,9 +11,6 @@ returns-then-table-lt-NODE_WORDS c =
     let a = c.args in
     let h = c.if-table-lt-NODE_WORDS.true in
     record { answer = c.too_short.ensures ∙ answer-short a.text.now (length a.table.now) h; table = table-short a.text.now a.table.now h }
-
-pub slice_bounds-clear-end-2 : goal.slice_bounds-clear-end-2
-slice_bounds-clear-end-2 c = sym (length-take-le node_words c.args.table.now c.if-table-lt-NODE_WORDS.false)
 
 pub returns : goal.returns
 returns c =

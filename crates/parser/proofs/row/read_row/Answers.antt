@@ -1,16 +1,8 @@
 -- `row::read_row` meets its contract: a whole row is there exactly where its number is below the number of whole rows. Assumes nothing.
-use Rattle.std.proofs.Common.{suc, ◌*◌, ◌<◌, ◌≤◌, length, add-zero, arith}
-use borrow.Author.Tests.{lt-leb}
+use Rattle.std.proofs.Common.{suc, ◌*◌, ◌≤◌, length, add-zero, arith}
 use Rattle.cel_text.specs.Table.{row_words}
 use Rattle.cel_text.proofs.Laws.Table.{row_inside}
 use Rattle.parser.proofs.row.read_row.Goals as goal
-
-pub returns-then-table-node : goal.returns-then-table-node
-returns-then-table-node c =
-    let n = c.args.node.0 in
-    let w = c.args.table.now in
-    let less : length w < row_words * suc n = omega arith in
-    rw (lt-leb (row_words * suc n) (length w) less) (cc)
 
 pub returns : goal.returns
 returns c =

@@ -9,6 +9,3 @@ pub returns-then-peek-gt32 : goal.returns-then-peek-gt32
 returns-then-peek-gt32 c =
     let a = c.args in
     sym (end-stop blank a.text.now a.at.0 (past-blank _ (omega (arith, c.if-peek-gt32.true, c.peek.ensures))))
-
-pub returns : goal.returns
-returns c = c.blank_run.ensures
