@@ -139,7 +139,8 @@ module _ (w : Words) (x : Text) where
 
 -- ---- an array of strings that is validated, whose row was read
 
-module _ (e : TreeNode) (name : ℕ) (a : expected_kind name ≡ array) {row : Row} (k : RowRead e.table.now e.number.0 row) {kind : ℕ} (i : kind ≡ kind_number (expected_kind name)) where
+module _ (e : TreeNode) (name : ℕ) (a : expected_kind name ≡ array) {row : Row}
+    (k : RowRead e.table.now e.number.0 row) {kind : ℕ} (i : kind ≡ kind_number (expected_kind name)) where
   list_tabled : Tabled e.table.now e.number.0
   list_tabled = tabled e.table.now e.text.now e.number.0 e.held
 

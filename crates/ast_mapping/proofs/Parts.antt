@@ -78,7 +78,8 @@ small e = few e.table.now e.text.now e.number.0 e.held
 
 module _ (e : TreeNode) where
   -- a key that is missing
-  pub missing : {name : ℕ} {A B : Type 0} {f : A → B} {P : A → Type 0} {d : Told} → refusal_told d ≡ fields_used 10 name e.number.0 → Gives f P (Err d) (missing_property name e.number.0)
+  pub missing : {name : ℕ} {A B : Type 0} {f : A → B} {P : A → Type 0} {d : Told} → refusal_told d ≡ fields_used 10 name e.number.0
+      → Gives f P (Err d) (missing_property name e.number.0)
   missing t = refuses t refl (small e)
 
   -- which of two keys is there
@@ -112,7 +113,9 @@ module _ (e : TreeNode) {row : Row} (k : RowRead e.table.now e.number.0 row) whe
 
   module _ (l : row.past.0 ≡ e.number.0 + 1 → ⊥) where
     argument : Child e.table.now e.text.now e.number.0 e.held childless (suc e.number.0)
-    argument = next-child e.table.now e.text.now e.number.0 e.held (begins-none (children (node_of e))) (omega arith) (omega (arith, l, k.past, later e.table.now e.text.now e.number.0 e.held))
+    argument =
+        next-child e.table.now e.text.now e.number.0 e.held (begins-none (children (node_of e))) (omega arith)
+        (omega (arith, l, k.past, later e.table.now e.text.now e.number.0 e.held))
 
     pub argument-held : Held e.table.now e.text.now (suc e.number.0)
     argument-held = argument.is

@@ -113,8 +113,7 @@ fn refused_in(tree: Answer, refusal: Refusal) -> Answer
         name: refusal.name,
         kind: refusal.kind,
         place: refusal.node.0 as u32,
-        nodes: tree.nodes,
-        depth: tree.depth,
+        ..tree
     }
 }
 

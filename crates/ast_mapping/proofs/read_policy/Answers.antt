@@ -23,7 +23,8 @@ unfolding tree_table
 map_tree-read-requires-clause-held c =
     let a = c.args in
     let t = c.read_tree-tree in
-    root-held hold (λ (k : Counted). 2 * string_count k) zeros a.text.now a.nodes.now a.spans.now c.if-spans-lt-SPAN_WORDS.false t.result t.new.table t.ensures.answer t.ensures.table
+    root-held hold (λ (k : Counted). 2 * string_count k) zeros a.text.now a.nodes.now a.spans.now c.if-spans-lt-SPAN_WORDS.false t.result t.new.table
+    t.ensures.answer t.ensures.table
 
 pub slice_bounds-clear-end-2 : goal.slice_bounds-clear-end-2
 slice_bounds-clear-end-2 c = counted_words c.args.spans.now c.map_tree-read.new.spans c.map_tree-read.auto.spans c.if-spans-lt-SPAN_WORDS.false

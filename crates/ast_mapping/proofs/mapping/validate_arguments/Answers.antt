@@ -16,7 +16,8 @@ pub returns-in-First : goal.returns-in-First
 unfolding validation_args certification_of
 returns-in-First c =
     goes_on _ c.in_ok-validate_node.ensures
-    (goes_on _ {a = First c.in-First.field-0} (picked c.args.arguments.now 11 12 c.lookup.ensures c.lookup-2.ensures (rw c.in-First.is at c.in_ok-only.ensures)) (record { is = refl; inside = tt }))
+    (goes_on _ {a = First c.in-First.field-0} (picked c.args.arguments.now 11 12 c.lookup.ensures c.lookup-2.ensures (rw c.in-First.is at c.in_ok-only.ensures))
+    (record { is = refl; inside = tt }))
 
 pub returns-in-Second : goal.returns-in-Second
 unfolding validation_args certification_of

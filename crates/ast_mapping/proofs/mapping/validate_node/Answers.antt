@@ -10,7 +10,8 @@ part-requires c = name-inside c.args.node.now c.args.name c.row-row.ensures c.ex
 
 pub returns-then-not-is_name : goal.returns-then-not-is_name
 returns-then-not-is_name c =
-    wrong-name c.args.node.now c.args.name c.row-row.ensures c.expected_kind.ensures c.if-row-expected_kind.false c.is_name.ensures c.part.ensures c.if-not-is_name.true c.refused-then-not-is_name.ensures
+    wrong-name c.args.node.now c.args.name c.row-row.ensures c.expected_kind.ensures c.if-row-expected_kind.false c.is_name.ensures c.part.ensures
+    c.if-not-is_name.true c.refused-then-not-is_name.ensures
 
 pub returns : goal.returns
 returns c =

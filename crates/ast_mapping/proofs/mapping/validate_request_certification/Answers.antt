@@ -16,7 +16,8 @@ returns-in_err-only c = stops _ (picked c.args.certification.now 13 14 c.lookup.
 pub returns-in-First : goal.returns-in-First
 unfolding request_part request_of
 returns-in-First c =
-    goes_on _ {a = First c.in-First.field-0} (picked c.args.certification.now 13 14 c.lookup.ensures c.lookup-2.ensures (rw c.in-First.is at c.in_ok-only.ensures)) (record { is = refl; inside = tt })
+    goes_on _ {a = First c.in-First.field-0} (picked c.args.certification.now 13 14 c.lookup.ensures c.lookup-2.ensures (rw c.in-First.is at c.in_ok-only.ensures))
+    (record { is = refl; inside = tt })
 
 pub returns-in_err-request_lists-in-Second : goal.returns-in_err-request_lists-in-Second
 unfolding request_part request_of

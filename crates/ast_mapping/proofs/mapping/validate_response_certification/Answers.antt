@@ -33,7 +33,9 @@ returns c =
     let e = c.in-Some.response in
     let i = c.in_ok-included in
     let x = c.in_ok-excluded in
-    let one = chosen (list_of e.table.now) (ListIn e.table.now) 15 16 e.number.0 i.included x.excluded c.exactly_one.result c.exactly_one.ensures (small e) i.ensures.inside x.ensures.inside in
+    let one =
+    chosen (list_of e.table.now) (ListIn e.table.now) 15 16 e.number.0 i.included x.excluded c.exactly_one.result c.exactly_one.ensures (small e)
+    i.ensures.inside x.ensures.inside in
     rw (sym c.in-Some.ensures.found)
     (goes_on _ c.in_ok-validate_node.ensures
     (moved (λ (w : Words). only_as (list_of w)) (λ (w : Words). OnlyIf (ListIn w)) c.in-Some.ensures.same (goes_on _ i.ensures (goes_on _ x.ensures one))))
