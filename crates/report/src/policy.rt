@@ -1,13 +1,12 @@
 // An accepted text in words: its form, its lists, its nodes and depth, and its canonical text.
-ghost use Rattle.std.specs.Prelude.{◌≡◌, ◌<◌, ◌+◌, ◌*◌, ◌^◌, cond, ◌++◌, get_or, take, eqb};
-ghost use Rattle.cel_text.specs.Byte.{bytes, string_byte};
+ghost use Rattle.std.specs.Prelude.{◌≡◌, ◌<◌, ◌+◌, ◌*◌, ◌^◌, cond, get_or, eqb};
+ghost use Rattle.cel_text.specs.Byte.{string_byte};
 ghost use Rattle.cel_text.specs.Answer.{max_text};
 ghost use Rattle.cel_policy.specs.Policy.{numbers, exclusions};
 ghost use Rattle.cel_policy.specs.Spans.{spans_at};
-ghost use Rattle.cel_policy.specs.Answers.{find_print};
+ghost use Rattle.cel_policy.specs.Answers.{find_print, written};
 ghost use Rattle.parser.specs.Found.{told};
 ghost use Rattle.pieces.specs.Pieces.{Wrote};
-ghost use Rattle.page.specs.Page.{shown, said};
 ghost use Rattle.report.specs.Policy.{number_of, form_text, string_text, strings_text, title_text, list_lines, request_lines, lists_lines, size_text};
 ghost use Rattle.report.specs.Policy.{canonical_lines, policy_text};
 
@@ -142,7 +141,7 @@ impl Accepted<'_> {
                 print.refusal as usize,
             );
         }
-        put_printed(out, at, &printed, print.length as usize)
+        put_printed(out, at, &printed[..print.length as usize])
     }
 
     // The whole, with the answer that it was accepted by.
@@ -189,10 +188,10 @@ fn put_size(out: &mut [u8], at: usize, answer: Answer) -> usize
 }
 
 // The canonical text is not cut: it stands on the last line, to be copied from there.
-fn put_printed(out: &mut [u8], at: usize, printed: &[u8], length: usize) -> usize
-    ensures { Wrote out.old out.new at result (said (bytes "Canonical text, # bytes:\n\n") length ++ (shown (take length printed.now) ++ said (bytes "\n") 0)) }
+fn put_printed(out: &mut [u8], at: usize, printed: &[u8]) -> usize
+    ensures { Wrote out.old out.new at result (canonical_lines (written printed.now)) }
 {
-    let end = say(out, at, b"Canonical text, # bytes:\n\n", length);
-    let end = put_part(out, end, printed, 0, length);
+    let end = say(out, at, b"Canonical text, # bytes:\n\n", printed.len());
+    let end = page::put(out, end, printed);
     say(out, end, b"\n", 0)
 }

@@ -32,6 +32,37 @@ struct Spot {
     column: usize,
 }
 
+impl Spot {
+    // The line and column after a byte.
+    fn after(self, b: u8) -> Spot
+        requires { (self.line + 1 < 2 ^ 64) × (self.column + 1 < 2 ^ 64) }
+        ensures value { result ≡ after_byte self b }
+        ensures line_bound { (result.line ≤ self.line + 1) × (result.column ≤ self.column + 1) }
+    {
+        if b == b'\n' {
+            return Spot {
+                line: self.line + 1,
+                column: 1,
+            };
+        }
+        Spot {
+            column: self.column + 1,
+            ..self
+        }
+    }
+
+    // A line for it, where it is not in the first line.
+    fn put(self, out: &mut [u8], at: usize) -> usize
+        ensures { Wrote out.old out.new at result (spot_text self) }
+    {
+        if self.line == 1 {
+            return at;
+        }
+        let end = say(out, at, b"    Line #, column ", self.line);
+        say(out, end, b"#.\n", self.column)
+    }
+}
+
 // A place in a text, no further than its end.
 #[derive(Clone, Copy)]
 pub(crate) struct Mark<'a> {
@@ -83,7 +114,7 @@ impl<'a> Mark<'a> {
     {
         let mut spot = Spot { line: 1, column: 1 };
         for b in &self.text[..self.place.0] {
-            spot = after(spot, *b);
+            spot = spot.after(*b);
         }
         spot
     }
@@ -92,7 +123,7 @@ impl<'a> Mark<'a> {
         ensures { Wrote out.old out.new at result (place_text self.entry.text.now self.entry.place.0) }
     {
         let end = say(out, at, b"byte #\n", self.place.0);
-        put_spot(out, end, self.spot())
+        self.spot().put(out, end)
     }
 
     // The text's line and the beginning of the caret's, up to what is said of the place.
@@ -167,33 +198,4 @@ fn put_end(out: &mut [u8], at: usize, more: bool) -> usize
         return say(out, at, b" ...\n", 0);
     }
     say(out, at, b"\n", 0)
-}
-
-// The line and column after a byte.
-fn after(spot: Spot, b: u8) -> Spot
-    requires { (spot.line + 1 < 2 ^ 64) × (spot.column + 1 < 2 ^ 64) }
-    ensures value { result ≡ after_byte spot b }
-    ensures line_bound { (result.line ≤ spot.line + 1) × (result.column ≤ spot.column + 1) }
-{
-    if b == b'\n' {
-        return Spot {
-            line: spot.line + 1,
-            column: 1,
-        };
-    }
-    Spot {
-        column: spot.column + 1,
-        ..spot
-    }
-}
-
-// A line for the line and column of a place that is not in the first line.
-fn put_spot(out: &mut [u8], at: usize, spot: Spot) -> usize
-    ensures { Wrote out.old out.new at result (spot_text spot) }
-{
-    if spot.line == 1 {
-        return at;
-    }
-    let end = say(out, at, b"    Line #, column ", spot.line);
-    say(out, end, b"#.\n", spot.column)
 }

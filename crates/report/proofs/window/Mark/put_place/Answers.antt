@@ -5,4 +5,4 @@ use Rattle.report.proofs.window.Mark.put_place.Goals as goal
 
 pub returns : goal.returns
 unfolding place_text
-returns c = rw (← c.spot.ensures) (wrote_then c.say-end.ensures c.put_spot.ensures)
+returns c = rw (← c.spot.ensures) (wrote_then c.say-end.ensures c.put.ensures)
