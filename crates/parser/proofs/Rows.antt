@@ -1,6 +1,6 @@
 -- Rows put into a table, one after the other or out of order, and how many words they take. Assumes nothing.
-use Rattle.std.proofs.Common.{◌≡◌, ℕ, suc, ◌+◌, ◌*◌, ◌<◌, ◌≤◌, [], ◌∷◌, ◌++◌, length, take, drop, set, sym, refl, ap, ◌∙◌, append_assoc, drop-drop, arith}
-use lib.Seq.{sets, sets-eq, set_comm}
+use Rattle.std.proofs.Common.{◌≡◌, ℕ, suc, ◌+◌, ◌*◌, ◌<◌, ◌≤◌, [], ◌∷◌, ◌++◌, length, set, sym, refl, ap, ◌∙◌, arith}
+use lib.Seq.{sets, set_comm}
 use Rattle.cel_text.specs.Tree.{Kind, Key, Tree, string, container, Trees, ◌▸◌∶◌, nodes_all, count}
 use Rattle.cel_text.specs.Table.{Words, rows_of, rows_all, kind_number, key_from, key_to, string_kind, row_words}
 pub use Rattle.cel_text.proofs.Laws.Table.{length-rows_of, length-rows_all}
@@ -41,10 +41,15 @@ rows-container w c o from to q kf kt u n m ts k e e' h =
     ∙ ap (λ (i : ℕ). sets (sets w (row_words * n) (six ++ two)) i (rows_all ts (suc n) (suc n))) place
     ∙ sym (sets-append (six ++ two) (rows_all ts (suc n) (suc n)) w (row_words * n)))
 
--- words put side by side
-pub put-sets : (l ws : Words) (i : ℕ) → i + length ws ≤ length l → take i l ++ (ws ++ drop (length ws) (drop i l)) ≡ sets l i ws
-put-sets l ws i h = rw (drop-drop (length ws) i l, sym (append_assoc (take i l) ws (drop (i + length ws) l))) (sym (sets-eq ws l i h))
+-- six stores, and two more, at places that are sums
+pub put_six : (l : Words) (i a b c d e f : ℕ) → set (set (set (set (set (set l i a) (i + 1) b) (i + 2) c) (i + 3) d) (i + 4) e) (i + 5) f ≡ sets l i (a ∷ b ∷ c ∷ d ∷ e ∷ f ∷ [])
+put_six l i a b c d e f =
+    let h₁ : i + 1 ≡ suc i = omega arith in
+    let h₂ : i + 2 ≡ suc (suc i) = omega arith in
+    let h₃ : i + 3 ≡ suc (suc (suc i)) = omega arith in
+    let h₄ : i + 4 ≡ suc (suc (suc (suc i))) = omega arith in
+    let h₅ : i + 5 ≡ suc (suc (suc (suc (suc i)))) = omega arith in
+    rw (h₁, h₂, h₃, h₄, h₅)
 
--- two stores at places that are sums
 pub put_two : (l : Words) (i a b : ℕ) → set (set l (i + 6) a) (i + 7) b ≡ sets l (i + 6) (a ∷ b ∷ [])
 put_two l i a b = let h : i + 7 ≡ suc (i + 6) = omega arith in rw h

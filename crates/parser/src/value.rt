@@ -157,7 +157,8 @@ pub(crate) fn root() -> Slot
     }
 }
 
-// A value, with the key and the parent that its row shows.
+// A value, with the key and the parent that its row shows. The text and the table stay two parameters: a struct that holds the
+// `&mut [u32]` needs a clause on its ghost name in every contract.
 #[cycle(cel_value_key_value_list)]
 pub(crate) fn cel_value(
     text: &[u8],
