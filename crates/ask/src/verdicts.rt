@@ -1,7 +1,7 @@
 // `verdicts`: the line that the judge, the original Rust, writes for a text; and `limit` with the refusal's number where a limit
-// puts the text outside what the two are compared on.
+// puts the text outside what the two are compared on. The numbers of an answer, which are SPEC.md's, are put into words here, each once.
 use crate::reply::Reply;
-use crate::room;
+use crate::{fields, room};
 use ast_mapping::SPAN_WORDS;
 use cel_policy::Policy;
 use parser::{ACCEPTED, Answer, MAX_TEXT, NODE_WORDS};
@@ -126,9 +126,9 @@ fn put_verdict(text: &[u8], out: &mut Reply) {
 
 // The answer to a text in hex.
 pub(crate) fn answer(field: &[u8], out: &mut Reply) -> Option<()> {
-    let mut text = room::bytes();
-    let n = lines::unhex(field, &mut text)?;
-    put_verdict(&text[..n], out);
+    let mut room = room::bytes();
+    let text = fields::text(field, &mut room)?;
+    put_verdict(text, out);
     out.put(b"\n");
     Some(())
 }
