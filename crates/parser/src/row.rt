@@ -2,7 +2,7 @@
 ghost use Rattle.std.specs.Prelude.{◌≡◌, suc, ◌+◌, ◌-◌, ◌*◌, ◌^◌, ◌<◌, ◌≤◌, [], ◌∷◌, ◌++◌, length, take, replicate};
 ghost use Rattle.std.proofs.lemmas.List.Edits.{sets};
 ghost use Rattle.cel_text.specs.Reading.{max_nodes};
-ghost use Rattle.cel_text.specs.Table.{row_words, words_at, row_at};
+ghost use Rattle.cel_text.specs.Table.{row_words, row_at};
 ghost use Rattle.parser.specs.Rows.{row_told};
 
 use crate::value::Slot;

@@ -1,5 +1,5 @@
 // Bytes of the text, one at a time and by runs of a class.
-ghost use Rattle.std.specs.Prelude.{◌≡◌, ℕ, ◌+◌, ◌*◌, ◌^◌, ◌<◌, ◌≤◌, max, length, slice_index};
+ghost use Rattle.std.specs.Prelude.{◌≡◌, ℕ, ◌<◌, ◌≤◌, length, slice_index};
 ghost use Rattle.cel_text.specs.Byte.{blank, ident_byte, ascii};
 ghost use Rattle.parser.specs.Set.{string_set};
 ghost use Rattle.parser.specs.Run.{class_of, end_of, Spaces, NamedAt, letter, digit};
