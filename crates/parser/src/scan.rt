@@ -159,7 +159,7 @@ fn is_blank(b: u8) -> bool
     b == b' ' || b == b'\t' || b == b'\n' || b == b'\r'
 }
 
-// Early returns, here and in the two below: with `||`, `matches!` or the library's `is_ascii_alphanumeric` the compiler looks for
+// Early returns, here and in the three below: with `||`, `matches!` or the library's `is_ascii_alphanumeric` the compiler looks for
 // letters last, and reading takes a quarter more time.
 fn is_ident(b: u8) -> bool
     ensures { result ≡ ident_byte b }
