@@ -77,11 +77,6 @@ pub small : (e : TreeNode) → e.number.0 < max_nodes
 small e = few e.table.now e.text.now e.number.0 e.held
 
 module _ (e : TreeNode) where
-  -- a key that is missing
-  pub missing : {name : ℕ} {A B : Type 0} {f : A → B} {P : A → Type 0} {d : Told} → refusal_told d ≡ fields_used 10 name e.number.0
-      → Gives f P (Err d) (missing_property name e.number.0)
-  missing t = refuses t refl (small e)
-
   -- which of two keys is there
   pub picked : {a b : ℕ} {f g : Option TreeNode} (both neither : ℕ) {r : Result (Which TreeNode) Told} → Looked e a f → Looked e b g
       → given_as (only_as (λ a. a)) r ≡ exactly_one both neither e.number.0 (found_as (λ a. a) f) (found_as (λ a. a) g)
