@@ -8,7 +8,7 @@ use Rattle.cel_text.specs.Reading.{max_nodes}
 use Rattle.cel_text.specs.Table.{Words}
 use Rattle.cel_text.proofs.Laws.Limit.{clash}
 use Rattle.cel_policy.specs.Policy.{Span}
-use Rattle.cel_policy.specs.Mapping.{Node, Nodes, childless, ◌▹◌∶◌, Refusal, Mapped, good, bad, and_then, missing_parameter, missing_property, exactly_one, lookup, string_array, first_child, first_of, certified}
+use Rattle.cel_policy.specs.Mapping.{Node, Nodes, childless, ◌▹◌∶◌, Refusal, Mapped, good, bad, and_then, missing_parameter, exactly_one, lookup, string_array, first_child, first_of, certified}
 use Rattle.parser.specs.declared.Node.{Node as Numbered}
 use Rattle.parser.specs.declared.row.Row.{Row}
 use Rattle.ast_mapping.specs.declared.tree.TreeNode.{TreeNode}
@@ -17,7 +17,7 @@ use Rattle.ast_mapping.specs.declared.mapping.Only.{Only as Which}
 use Rattle.ast_mapping.specs.declared.mapping.Only.TheVariants.{First, Second}
 use Rattle.ast_mapping.specs.declared.mapping.Request.{Request as Asked}
 use Rattle.ast_mapping.specs.View.{RowRead, node_at, children, Held}
-use Rattle.ast_mapping.specs.Steps.{node_of, With, Looked, refusal_told, fields_used, given_as, Gives, found_as, FoundIf, only_as, OnlyIf, ListChecked, list_of, ListIn}
+use Rattle.ast_mapping.specs.Steps.{node_of, With, Looked, refusal_told, given_as, Gives, found_as, FoundIf, only_as, OnlyIf, ListChecked, list_of, ListIn}
 use Rattle.ast_mapping.specs.Steps.{request_as, RequestIn, certified_as, Maps}
 use Rattle.ast_mapping.proofs.View.{few, tabled, later, Begins, all, less, begins-none, Child, next-child, last-child}
 
