@@ -1,30 +1,47 @@
 -- Parts of a line of words, parts of a text, and strings one after the other. Assumes nothing.
 use mathlib.Core.Path.{◌≡◌, refl, sym, ap, ◌∙◌}
-use Prim.Native.Nat.{ℕ, zero, suc, ◌+◌, ◌-◌, ◌*◌, ◌<◌, min}
-use native.Mathlib.Nat.{add-zero}
+use Prim.Native.Nat.{◌≤◌, ℕ, zero, suc, ◌+◌, ◌-◌, ◌*◌, ◌<◌, min}
+use native.Mathlib.Nat.{zero-add, suc-add, add-zero}
 use native.Mathlib.Numerals.{add-one}
+use native.Mathlib.Decide.{dec_le}
 use native.Mathlib.Omega.{arith}
 use mathlib.Core.List.{List, [], ◌∷◌, ◌++◌, append_assoc, append-nil}
-use lib.ListN.{length, get_or, take, drop, length-take, drop_of_length-le}
+use lib.ListN.{length, get_or, take, length-take, drop_of_length-le}
 use lib.Seq.{slice}
-use Rattle.lines.specs.Bytes.{index_of}
-use Rattle.lines.specs.Bytes.{slice as sliced}
 use Rattle.cel_text.specs.Byte.{Text}
 use Rattle.cel_text.specs.Table.{Words}
 use Rattle.cel_policy.specs.Policy.{Span}
 use Rattle.cel_policy.specs.Spans.{span_at, spans_at}
 use Rattle.lines.specs.Fields.{part_from, part_end}
-use Rattle.cel_text.proofs.Laws.Part.{part_slice}
 use Rattle.report.specs.Words.{part}
 use Rattle.report.specs.Policy.{string_text, strings_text}
 
--- the part of a line that begins at `from` and ends at `to`
-pub part-is : (line : Text) (number from to : ℕ) → from ≡ part_from 124 number line 0 → to ≡ from + index_of 124 (sliced from (length line) line)
-    → take (to - from) (drop from line) ≡ part line number
+-- a part past those that a line has
+from-end : (n : ℕ) (line : Text) → part_from 124 n line (length line) ≡ length line
+from-end zero line = refl
+from-end (suc n) line =
+    let m : min (part_end 124 line (length line) + 1) (length line) ≡ length line = omega arith in
+    rw m (from-end n line)
+
+from-more : (m n : ℕ) (line : Text) (at : ℕ) → part_from 124 (m + n) line at ≡ part_from 124 n line (part_from 124 m line at)
+from-more zero n line at = rw zero-add
+from-more (suc m) n line at = rw suc-add (from-more m n line (min (part_end 124 line at + 1) (length line)))
+
+pub part-none : (line : Text) (m n : ℕ) → part_from 124 m line 0 ≡ length line → m ≤ n → part line n ≡ []
 unfolding part
-part-is line number from to f t =
-    let past : to ≡ part_end 124 line (part_from 124 number line 0) = t ∙ ap (part_end 124 line) f in
-    part_slice from to line ∙ (λ k. slice (f k) (past k) line)
+part-none line m n e h =
+    let k : n ≡ m + (n - m) = omega arith in
+    let f : part_from 124 n line 0 ≡ length line =
+    ap (λ (i : ℕ). part_from 124 i line 0) k ∙ from-more m (n - m) line 0 ∙ ap (part_from 124 (n - m) line) e ∙ from-end (n - m) line in
+    let past : (to : ℕ) → slice (length line) to line ≡ [] = λ to. drop_of_length-le (take to line) {i = length line} (omega (arith, length-take to line)) in
+    rw f (past _)
+
+pub part-other : (line : Text) (m n : ℕ) → part line 0 ≡ [] → part_from 124 m line 0 ≡ length line → (n < m → n ≡ 0) → part line n ≡ []
+part-other line m n z e h =
+    elim (dec_le m n) [
+      | yes l ↦ part-none line m n e l
+      | no l ↦ ap (part line) (h (omega (arith, l))) ∙ z
+    ]
 
 -- a part of a text, as far as it has the bytes
 module _ (x : Text) (from to end : ℕ) (within : end ≡ min to (length x)) where

@@ -1,5 +1,5 @@
 // An accepted text in words: its form, its lists, its nodes and depth, and its canonical text.
-ghost use Rattle.std.specs.Prelude.{◌≡◌, ◌<◌, ◌+◌, ◌*◌, ◌^◌, cond, get_or, eqb};
+ghost use Rattle.std.specs.Prelude.{◌≡◌, ◌<◌, ◌+◌, ◌^◌, cond, get_or, eqb};
 ghost use Rattle.cel_text.specs.Byte.{string_byte};
 ghost use Rattle.cel_text.specs.Answer.{max_text};
 ghost use Rattle.cel_policy.specs.Policy.{numbers, exclusions};
@@ -7,10 +7,11 @@ ghost use Rattle.cel_policy.specs.Spans.{spans_at};
 ghost use Rattle.cel_policy.specs.Answers.{find_print, written};
 ghost use Rattle.parser.specs.Found.{told};
 ghost use Rattle.pieces.specs.Pieces.{Wrote};
+ghost use Rattle.page.specs.Page.{said};
 ghost use Rattle.report.specs.Policy.{number_of, form_text, string_text, strings_text, title_text, list_lines, request_lines, lists_lines, size_text};
 ghost use Rattle.report.specs.Policy.{canonical_lines, policy_text};
 
-use crate::words::{put_message, put_part};
+use crate::words::put_part;
 use cel_policy::Policy;
 use page::say;
 use parser::{Answer, MAX_TEXT};
@@ -18,7 +19,7 @@ use parser::{Answer, MAX_TEXT};
 // The most bytes of a string that are shown.
 const WIDE: usize = 72;
 
-// The lists, in the order of their titles.
+// The lists.
 #[derive(Clone, Copy)]
 enum List {
     RequestHeaders,
@@ -38,25 +39,26 @@ impl List {
         }
     }
 
-    // Which title it has: there are two for each, the second for a list that has strings.
-    fn title(self, count: usize) -> u32
-        ensures { result ≡ cond (eqb count 0) (2 * number_of self) (2 * number_of self + 1) }
+    // Its title: there are two for each, the second for a list that has strings.
+    #[tactic(auto, unfolding(crate::specs::Policy::title_text, crate::specs::Words::part))]
+    fn title(self, count: usize) -> &'static [u8]
+        ensures { said result.now count ≡ title_text (number_of self) count }
     {
-        2 * self as u32 + u32::from(count != 0)
-    }
-
-    fn put_title(self, out: &mut [u8], at: usize, count: usize) -> usize
-        ensures { Wrote out.old out.new at result (title_text (number_of self) count) }
-    {
-        let titles = b"    Certified request headers: none, the list is empty.\n\
-              |    Certified request headers (#):\n\
-              |    Certified query parameters: none, the list is empty.\n\
-              |    Certified query parameters (#):\n\
-              |    Certified response headers: none, the list is empty.\n\
-              |    Certified response headers: only these (#):\n\
-              |    Certified response headers: all, the list of exclusions is empty.\n\
-              |    Certified response headers: all except these (#):\n";
-        put_message(out, at, titles, self.title(count), count)
+        match (self, count) {
+            (List::RequestHeaders, 0) =>
+                b"    Certified request headers: none, the list is empty.\n",
+            (List::RequestHeaders, _) => b"    Certified request headers (#):\n",
+            (List::QueryParameters, 0) =>
+                b"    Certified query parameters: none, the list is empty.\n",
+            (List::QueryParameters, _) => b"    Certified query parameters (#):\n",
+            (List::ResponseInclusions, 0) =>
+                b"    Certified response headers: none, the list is empty.\n",
+            (List::ResponseInclusions, _) => b"    Certified response headers: only these (#):\n",
+            (List::ResponseExclusions, 0) =>
+                b"    Certified response headers: all, the list of exclusions is empty.\n",
+            (List::ResponseExclusions, _) =>
+                b"    Certified response headers: all except these (#):\n",
+        }
     }
 }
 
@@ -95,7 +97,7 @@ impl Accepted<'_> {
         requires { first + count < 2 ^ 40 }
         ensures { Wrote out.old out.new at result (list_lines self.entry.text.now self.entry.spans.now (number_of list) first count) }
     {
-        let end = list.put_title(out, at, count);
+        let end = say(out, at, list.title(count), count);
         self.put_strings(out, end, first, count)
     }
 
@@ -148,21 +150,25 @@ impl Accepted<'_> {
     pub(crate) fn put(self, out: &mut [u8], at: usize, answer: Answer) -> usize
         ensures { Wrote out.old out.new at result (policy_text self.entry.text.now self.entry.spans.now (told answer) (numbers self.entry.policy)) }
     {
-        let end = put_form(out, at, self.policy.form);
+        let end = say(out, at, form(self.policy.form), 0);
         let end = self.put_lists(out, end);
         let end = put_size(out, end, answer);
         self.put_canonical(out, end)
     }
 }
 
-#[tactic(auto, unfolding(crate::specs::Policy::form_text))]
-fn put_form(out: &mut [u8], at: usize, form: u32) -> usize
-    ensures { Wrote out.old out.new at result (form_text form) }
+// A policy's form.
+#[tactic(auto, unfolding(crate::specs::Policy::form_text, crate::specs::Words::part))]
+fn form(form: u32) -> &'static [u8]
+    ensures { said result.now 0 ≡ form_text form }
 {
-    let forms = b"|Accepted: Skip. Nothing is certified.\n\
-          |Accepted: ResponseOnly. The response is certified, the request is not.\n\
-          |Accepted: Full. The request and the response are certified.\n";
-    put_message(out, at, forms, form, 0)
+    match form {
+        cel_policy::SKIP => b"Accepted: Skip. Nothing is certified.\n",
+        cel_policy::RESPONSE_ONLY =>
+            b"Accepted: ResponseOnly. The response is certified, the request is not.\n",
+        cel_policy::FULL => b"Accepted: Full. The request and the response are certified.\n",
+        _ => b"",
+    }
 }
 
 // A string in double quotes, on a line of its own; a long one is cut, and its length said.

@@ -6,4 +6,4 @@ use Rattle.report.proofs.refusal.put_instead.Goals as goal
 pub returns : goal.returns
 unfolding instead_text
 returns c =
-    wrote_then c.put_expected-end.ensures (wrote_then c.spell-end.ensures c.say.ensures)
+    rw (← c.expected.ensures) (wrote_then c.say-end.ensures (wrote_then c.spell-end.ensures c.say.ensures))

@@ -13,7 +13,7 @@ returns-then-answer-le-TOO_MANY c =
     let h = c.if-answer-le-TOO_MANY.true in
     let w = c.within-mark.ensures.place in
     let p = rw c.within-mark.ensures.text at c.put_byte_place.ensures in
-    rw (le-leb r (fault_number too_many) h, ← w) (wrote_then c.say-end.ensures (wrote_then c.put_reading-end.ensures p))
+    rw (le-leb r (fault_number too_many) h, ← w) (wrote_then c.say-end.ensures (wrote_then (rw c.reading.ensures at c.say-end-then-answer-le-TOO_MANY.ensures) p))
 
 pub returns : goal.returns
 unfolding refusal_text

@@ -6,4 +6,4 @@ use Rattle.report.proofs.refusal.put_wrong.Goals as goal
 pub returns : goal.returns
 unfolding wrong_text
 returns c =
-    wrote_then c.say-end.ensures (wrote_then c.put_found-end.ensures (wrote_then c.say-end-2.ensures c.put_instead.ensures))
+    rw (← c.found.ensures) (wrote_then c.say-end.ensures (wrote_then c.say-end-2.ensures (wrote_then c.say-end-3.ensures c.put_instead.ensures)))

@@ -6,4 +6,4 @@ use Rattle.report.proofs.policy.Accepted.put.Goals as goal
 pub returns : goal.returns
 unfolding policy_text
 returns c =
-    wrote_then c.put_form-end.ensures (wrote_then c.put_lists-end.ensures (wrote_then c.put_size-end.ensures c.put_canonical.ensures))
+    rw (← c.form.ensures) (wrote_then c.say-end.ensures (wrote_then c.put_lists-end.ensures (wrote_then c.put_size-end.ensures c.put_canonical.ensures)))

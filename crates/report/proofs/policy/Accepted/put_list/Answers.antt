@@ -5,4 +5,4 @@ use Rattle.report.proofs.policy.Accepted.put_list.Goals as goal
 
 pub returns : goal.returns
 unfolding list_lines
-returns c = wrote_then c.put_title-end.ensures c.put_strings.ensures
+returns c = rw (← c.title.ensures) (wrote_then c.say-end.ensures c.put_strings.ensures)
