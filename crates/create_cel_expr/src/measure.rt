@@ -14,6 +14,7 @@ const RESPONSE_ONLY_LENGTH: usize = 204;
 const FULL_LENGTH: usize = 274;
 
 // The strings from string `begin` on, `count` of them.
+// Two numbers and no range, which may end before it starts; and no struct: making one for each list takes as many clauses as the three that it saves.
 fn strings(given: &Checked, begin: usize, count: usize) -> usize
     requires { begin + count ≤ count_of given.now }
     ensures long { result ≡ total (strings_of given.now count begin) }
