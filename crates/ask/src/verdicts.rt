@@ -89,8 +89,8 @@ fn put_strings(out: &mut Reply, text: &[u8], spans: &[[u32; 2]], first: usize, l
 fn put_policy(out: &mut Reply, policy: Policy, text: &[u8], spans: &[u32], printed: &[u8]) {
     let (spans, _) = spans.as_chunks::<2>();
     let request = policy.request as usize;
-    let query = request + policy.query as usize;
-    let response = query + policy.response as usize;
+    let query = policy.before_response();
+    let response = policy.strings();
     out.put(b"ok");
     out.put(form(policy.form));
     out.put(list_kind(policy.kind));
