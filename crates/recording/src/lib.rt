@@ -54,7 +54,7 @@ pub struct Turn {
 // Room for any line.
 const LINE_ROOM: usize = 64;
 
-// Before the first record.
+// Before the first record: `State::default()`, under the name that docs/PROMISES.md promises.
 pub fn start() -> State
     ensures { result ≡ beginning }
 {
@@ -85,7 +85,8 @@ pub fn advance(state: State, held: &[u8], ended: bool, out: &mut [u8]) -> Turn
     drain(state, held, ended, out)
 }
 
-// One step after the other, until one stops the turn or there is no room for a line.
+// One step after the other, until one stops the turn or there is no room for a line. `Full` is also that of a turn that goes on, as in the
+// definition: it stops for want of room unless a step says otherwise. No `for`: how much room a step takes is known only after it.
 fn drain(state: State, held: &[u8], ended: bool, out: &mut [u8]) -> Turn
     requires { Counts state 0 (length held.now) }
     ensures { Drained state held.now ended out.old out.new result }

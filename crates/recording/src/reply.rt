@@ -5,7 +5,7 @@ ghost use Rattle.recording.specs.Replay.{reply_to, too_long};
 use ast_mapping::SPAN_WORDS;
 use parser::{NODE_WORDS, TEXT_TOO_LONG};
 
-// What a line says of a record: its answer, its form, its nodes and its depth.
+// What a line says of a record: its answer, its form, its nodes and its depth, the numbers of SPEC.md.
 #[derive(Clone, Copy, Debug, Default, PartialEq, Eq)]
 pub(crate) struct Reply {
     pub answer: u32,
@@ -26,7 +26,7 @@ impl Reply {
     }
 }
 
-// The tables that reading is lent. They are read over: no word of them is looked at.
+// The tables that reading is lent, turn after turn; the entries take two slices, as docs/PROMISES.md promises. They are read over: no word of them is looked at.
 #[derive(Drop)]
 pub(crate) struct Tables {
     pub nodes: [u32; NODE_WORDS],

@@ -10,6 +10,9 @@ use std::io;
 use std::io::Read;
 use window::Held;
 
+// The room for what is held of the input, and for what a turn writes.
+const ROOM: usize = 65536;
+
 const HELP: &[u8] = b"Usage: replay <RECORDING\n\
       \n\
       Reads the recorded expressions on standard input and writes a line for each: its number, the\n\
@@ -23,8 +26,8 @@ const HELP: &[u8] = b"Usage: replay <RECORDING\n\
 // The heading, and then turn after turn, until one is the last. What a turn wrote is written out before more is read, since a read may wait.
 // Nothing says that the input ends, so the turns are counted up to a number that no run reaches.
 fn replay<R: Read, O: Print, E: Print>(console: &Console<'_, O, E>, reader: &mut R) {
-    let mut input = [0u8; 65536];
-    let mut out = [0u8; 65536];
+    let mut input = [0u8; ROOM];
+    let mut out = [0u8; ROOM];
     let heading = recording::put_heading(&mut out);
     if !console.say(&out[..heading]) {
         return;

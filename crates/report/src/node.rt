@@ -7,7 +7,7 @@ use crate::window::Mark;
 use parser::Node;
 use parser::row::read_row;
 
-// A node's kind.
+// A node's kind. The table is one that anyone may have filled, so no row is known to be there.
 #[tactic(auto, unfolding(crate::specs::Node::kind_at))]
 pub(crate) fn kind(table: &[u32], node: Node) -> u32
     ensures { result ≡ kind_at table.now node.0 }

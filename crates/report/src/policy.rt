@@ -17,7 +17,7 @@ use page::say;
 use parser::{Answer, MAX_TEXT};
 
 // The most bytes of a string that are shown.
-const WIDE: usize = 72;
+const MOST_SHOWN: usize = 72;
 
 // The lists.
 #[derive(Clone, Copy)]
@@ -62,7 +62,7 @@ impl List {
     }
 }
 
-// A policy that was read, with the text and the span table in which its strings stand.
+// A policy that was read, with the text and the span table in which its strings stand. Not the printer's `Checked`, which is judged and stays there.
 #[derive(Clone, Copy)]
 pub(crate) struct Accepted<'a> {
     pub policy: Policy,
@@ -178,11 +178,11 @@ fn put_string(out: &mut [u8], at: usize, text: &[u8], from: u32, to: u32) -> usi
     let first = from as usize;
     let last = to as usize;
     let end = say(out, at, b"        \"", 0);
-    if last <= first + WIDE {
+    if last <= first + MOST_SHOWN {
         let end = put_part(out, end, text, first, last);
         return say(out, end, b"\"\n", 0);
     }
-    let end = put_part(out, end, text, first, first + WIDE);
+    let end = put_part(out, end, text, first, first + MOST_SHOWN);
     say(out, end, b"...\", # bytes\n", last - first)
 }
 

@@ -18,7 +18,7 @@ const HALF: usize = 36;
 // The columns before the text: blank, or a mark that it begins earlier.
 const MARGIN: usize = 4;
 
-// One end of the part, and the columns between it and the place.
+// One end of the part, and the columns between it and the place. Of bytes that were passed: how many they are, and their columns.
 #[derive(Clone, Copy)]
 struct Side {
     at: usize,
@@ -165,6 +165,7 @@ fn pass<'a, I: Iterator<Item = &'a u8> + Drop>(bytes: I, room: usize) -> Side
     ensures value { (all : Text) → AlwaysYields I.next_gives (λ b. b.now) bytes all → result ≡ forth_from all room 0 0 }
     ensures columns_le_room { result.columns ≤ room }
 {
+    // `at` counts: where the bytes end first, `enumerate` does not tell how many there were.
     let mut at = 0;
     let mut columns = 0;
     for b in bytes {
