@@ -8,12 +8,12 @@ ghost use Rattle.parser.specs.Rows.{row_told};
 use crate::value::Slot;
 use crate::{Node, Place, ROW_WORDS};
 
-// A parent's word: its number plus 1, 0 where there is none.
-#[derive(Clone, Copy, Default)]
+// A parent's word: its number plus 1, 0 where there is none. A word and no Option<Node>: it is what the row holds.
+#[derive(Clone, Copy, Debug, Default, PartialEq, Eq)]
 pub struct Parent(pub u32);
 
 // A node's row, word by word.
-#[derive(Clone, Copy, Default)]
+#[derive(Clone, Copy, Debug, Default, PartialEq, Eq)]
 pub struct Row {
     pub kind: u32,
     pub from: Place,

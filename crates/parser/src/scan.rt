@@ -9,8 +9,8 @@ use crate::Place;
 // Eight spaces as one number.
 const EIGHT_SPACES: u64 = 0x2020202020202020;
 
-// The classes of bytes that runs are made of.
-#[derive(Clone, Copy)]
+// The classes of bytes that runs are made of. An enum and no closure: `run_of` is public and promised (docs/PROMISES.md).
+#[derive(Clone, Copy, Debug, PartialEq, Eq)]
 pub enum Class {
     Blank,
     Ident,
@@ -26,12 +26,11 @@ pub(crate) struct Name {
     pub end: Place,
 }
 
-// The byte at a place, 0 past the end: no byte that reading looks for is 0.
+// The byte at a place, 0 past the end. A byte and no Option: no byte that reading looks for is 0, and one comparison serves for both.
 pub(crate) fn peek(text: &[u8], at: Place) -> u8
     ensures { result ≡ slice_index text.now at.0 }
 {
-    let i = at.0;
-    if i < text.len() { text[i] } else { 0 }
+    text.get(at.0).copied().unwrap_or(0)
 }
 
 // The end of the run of bytes of this class that begins here.
@@ -54,7 +53,7 @@ fn blanks(text: &[u8], at: Place) -> Place
     blank_run(text, at)
 }
 
-// Blank by blank. Most are spaces, many in a row, and those are passed eight at a time.
+// Blank by blank. No `for`: a turn passes a blank and the spaces after it, many in a row and eight at a time.
 fn blank_run(text: &[u8], at: Place) -> Place
     ensures { result.0 ≡ end_of blank text.now at.0 }
 {
@@ -124,19 +123,12 @@ fn greatest(text: &[u8]) -> u8
     most
 }
 
-// The end of the identifier that begins here.
-fn ident(text: &[u8], at: Place) -> Place
-    ensures { result.0 ≡ end_of ident_byte text.now at.0 }
-{
-    run_of(text, at, Class::Ident)
-}
-
 // An identifier and the blanks around it.
 pub(crate) fn trimmed_ident(text: &[u8], at: Place) -> Name
     ensures { NamedAt text.now at.0 result.from.0 result.to.0 result.end.0 }
 {
     let from = run_of(text, at, Class::Blank);
-    let to = ident(text, from);
+    let to = run_of(text, from, Class::Ident);
     let end = run_of(text, to, Class::Blank);
     Name { from, to, end }
 }
@@ -156,7 +148,7 @@ fn has(class: Class, b: u8) -> bool
 fn is_blank(b: u8) -> bool
     ensures { result ≡ blank b }
 {
-    b == b' ' || b == b'\t' || b == b'\n' || b == b'\r'
+    matches!(b, b' ' | b'\t' | b'\n' | b'\r')
 }
 
 fn is_ident(b: u8) -> bool
