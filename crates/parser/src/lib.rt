@@ -154,12 +154,14 @@ pub fn read_over(text: &[u8], table: &mut [u32]) -> Answer
     ensures answer { told result ≡ tree_answer (length table.old) text.now }
     ensures table { table.new ≡ tree_over text.now table.old }
 {
+    // No `get_mut`: once its borrow is over a proof knows the table's length and none of its words.
     if table.len() < NODE_WORDS {
         return too_short();
     }
-    let found = find(text, &mut table[..NODE_WORDS]);
+    let counted = &mut table[..NODE_WORDS];
+    let found = find(text, counted);
     let answer = answer_of(found);
-    row::clear(&mut table[..NODE_WORDS], stale(answer.refusal));
+    row::clear(counted, stale(answer.refusal));
     answer
 }
 

@@ -69,16 +69,14 @@ fn spaces(text: &[u8], at: Place) -> Place
     requires { at.0 ≤ length text.now }
     ensures { Spaces text.now at.0 result.0 }
 {
-    let mut end = at.0;
     let (eights, _) = text[at.0..].as_chunks::<8>();
-    for eight in eights {
+    for (i, eight) in eights.iter().enumerate() {
         let n = spaces_of_eight(eight);
         if n < 8 {
-            return Place(end + n as usize);
+            return Place(at.0 + 8 * i + n as usize);
         }
-        end += 8;
     }
-    Place(end)
+    Place(at.0 + 8 * eights.len())
 }
 
 // So many of eight bytes, the first ones, are spaces: with eight spaces taken off, as many bytes are 0.
@@ -93,12 +91,11 @@ fn spaces_of_eight(eight: &[u8; 8]) -> u32
 fn run(text: &[u8], at: Place, class: Class) -> Place
     ensures { result.0 ≡ end_of (class_of class) text.now at.0 }
 {
-    for i in at.0..text.len() {
-        if !has(class, text[i]) {
-            return Place(i);
-        }
-    }
-    Place(at.0.max(text.len()))
+    let Some(rest) = text.get(at.0..) else {
+        return at;
+    };
+    let other = rest.iter().position(|b| !has(class, *b));
+    Place(at.0 + other.unwrap_or(rest.len()))
 }
 
 // The place of the first byte of 128 or more, or the text's length. Nearly every text has none, and the loop that finds the
@@ -116,11 +113,7 @@ pub(crate) fn ascii_end(text: &[u8]) -> Place
 fn greatest(text: &[u8]) -> u8
     ensures { (k : ℕ) → k < length text.now → slice_index text.now k ≤ result }
 {
-    let mut most: u8 = 0;
-    for b in text {
-        most = most.max(*b);
-    }
-    most
+    text.iter().copied().max().unwrap_or(0)
 }
 
 // An identifier and the blanks around it.
