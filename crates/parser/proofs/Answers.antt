@@ -1,5 +1,5 @@
 -- From the value that a text begins with to the answer and the table of `read_over`. Assumes nothing.
-use Rattle.std.proofs.Common.{◌≡◌, ℕ, ◌+◌, ◌-◌, ◌<◌, ◌≤◌, Result, Ok, Err, [], ◌++◌, length, take, drop, replicate, sym, refl, ap, ◌∙◌, append_assoc, append-nil, zero-add, arith, take-append-drop, length-take-le, take_all, take_at, drop_at, le-ltb, lt-ltb}
+use Rattle.std.proofs.Common.{◌≡◌, ℕ, ◌+◌, ◌-◌, ◌<◌, ◌≤◌, Result, Ok, Err, [], ◌++◌, length, take, drop, replicate, sym, refl, ap, ◌∙◌, append_assoc, append-nil, zero-add, arith, take-append-drop, length-take-le, take_all, le-ltb, lt-ltb}
 use native.Mathlib.Nat.{sub-zero}
 use lib.Seq.{sets, sets-eq, drop-append-le}
 use Rattle.cel_text.specs.Byte.{Text, ascii, lead}
@@ -105,10 +105,8 @@ module _ (x : Text) (w : Words) (h : node_words ≤ length w) where
 
   -- v is what clearing leaves of the words lent
   pub find-over : (w' : Words) (s : Result Read Refused) → Finds x (take node_words w) w' s → length w' ≡ length (take node_words w) → (i : ℕ) → i ≡ stale_from (nodes_left (answer_of s).refusal)
-      → (v : Words) → v ≡ cleared_from (take node_words (w' ++ drop node_words w)) i → v ++ drop node_words (w' ++ drop node_words w) ≡ tree_over x w
-  find-over w' s f h' i e v c =
-      let long : length w' ≡ node_words = h' ∙ length-take-le node_words w h in
-      rw (c, take_at w' (drop node_words w) node_words long, drop_at w' (drop node_words w) node_words long, e) (over-front w' s f long)
+      → (v : Words) → v ≡ cleared_from w' i → v ++ drop node_words w ≡ tree_over x w
+  find-over w' s f h' i e v c = rw (c, e) (over-front w' s f (h' ∙ length-take-le node_words w h))
 
 -- a table that is too short
 module _ (x : Text) where

@@ -14,11 +14,11 @@ ghost use Rattle.parser.specs.Faults.{number_of};
 ghost use Rattle.parser.specs.Found.{told, Finds, Small, answer_of, accepted_with, stale_from};
 
 // A place in the text: how many bytes stand before it.
-#[derive(Clone, Copy, Default)]
+#[derive(Clone, Copy, Debug, Default, PartialEq, Eq, PartialOrd, Ord)]
 pub struct Place(pub usize);
 
 // A node's number.
-#[derive(Clone, Copy, Default)]
+#[derive(Clone, Copy, Debug, Default, PartialEq, Eq, PartialOrd, Ord)]
 pub struct Node(pub usize);
 
 // What was read: where reading goes on, the number of the next node and the depth.
@@ -40,7 +40,7 @@ pub(crate) enum Fault {
 }
 
 impl Fault {
-    // The refusal's number.
+    // The refusal's number. A method and no `From`: `u32::from(fault)` would not say which number is meant.
     fn number(self) -> u32
         ensures { result ≡ number_of self }
     {
@@ -68,8 +68,8 @@ pub(crate) struct Refused {
     pub place: Place,
 }
 
-// The answer of reading a tree: its six numbers, as SPEC.md has them.
-#[derive(Clone, Copy)]
+// The answer of reading a tree: SPEC.md's six numbers, which callers print, hand to C and compare, so no enum.
+#[derive(Clone, Copy, Debug, PartialEq, Eq)]
 pub struct Answer {
     pub refusal: u32,
     pub name: u32,
@@ -91,7 +91,7 @@ pub const NODE_WORDS: usize = ROW_WORDS * MAX_NODES;
 
 pub const ROW_WORDS: usize = 8;
 
-// Kinds, as a row's first word names them: numbers, since any table may be lent.
+// Kinds, as a row's first word names them: numbers and no enum, since a row is words and a table may hold any.
 pub const STRING: u32 = 1;
 
 pub const ARRAY: u32 = 2;
@@ -100,7 +100,7 @@ pub const OBJECT: u32 = 3;
 
 pub const FUNCTION: u32 = 4;
 
-// An accepted text, and the refusals of reading a tree.
+// An accepted text, and the refusals of reading a tree: SPEC.md's numbers, matched by ranges. Reading itself has `Fault`.
 pub const ACCEPTED: u32 = 0;
 
 pub const TABLE_TOO_SHORT: u32 = 1;
@@ -154,12 +154,14 @@ pub fn read_over(text: &[u8], table: &mut [u32]) -> Answer
     ensures answer { told result ≡ tree_answer (length table.old) text.now }
     ensures table { table.new ≡ tree_over text.now table.old }
 {
+    // No `get_mut`: once its borrow is over a proof knows the table's length and none of its words.
     if table.len() < NODE_WORDS {
         return too_short();
     }
-    let found = find(text, &mut table[..NODE_WORDS]);
+    let counted = &mut table[..NODE_WORDS];
+    let found = find(text, counted);
     let answer = answer_of(found);
-    row::clear(&mut table[..NODE_WORDS], stale(answer.refusal));
+    row::clear(counted, stale(answer.refusal));
     answer
 }
 
@@ -185,6 +187,7 @@ fn find(text: &[u8], table: &mut [u32]) -> Result<Read, Refused>
     value::cel_value(text, table, value::root(), MAX_DEPTH)
 }
 
+// The answer about what was found. No `From`: the numbers have to be small enough for a word, which only a contract can ask.
 fn answer_of(found: Result<Read, Refused>) -> Answer
     requires { Small found }
     ensures { told result ≡ answer_of found }
@@ -200,13 +203,12 @@ fn accepted(read: Read) -> Answer
     requires { (read.next.0 ≤ max_nodes) × (read.depth ≤ max_depth) }
     ensures { told result ≡ accepted_with read }
 {
-    let nodes = read.next;
     Answer {
         refusal: ACCEPTED,
         name: 0,
         kind: 0,
         place: 0,
-        nodes: nodes.0 as u32,
+        nodes: read.next.0 as u32,
         depth: read.depth as u32,
     }
 }
@@ -231,8 +233,9 @@ fn stale(refusal: u32) -> usize
     ensures { result ≡ stale_from (nodes_left refusal) }
 {
     match refusal {
-        ACCEPTED | UNEXPECTED_NODE_TYPE..=MISSING_RESPONSE_CERTIFICATION_PROPERTY => NODE_WORDS,
-        TABLE_TOO_SHORT => NODE_WORDS,
+        ACCEPTED
+        | TABLE_TOO_SHORT
+        | UNEXPECTED_NODE_TYPE..=MISSING_RESPONSE_CERTIFICATION_PROPERTY => NODE_WORDS,
         _ => 0,
     }
 }

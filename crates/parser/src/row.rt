@@ -8,12 +8,12 @@ ghost use Rattle.parser.specs.Rows.{row_told};
 use crate::value::Slot;
 use crate::{Node, Place, ROW_WORDS};
 
-// A parent's word: its number plus 1, 0 where there is none.
-#[derive(Clone, Copy, Default)]
+// A parent's word: its number plus 1, 0 where there is none. A word and no Option<Node>: it is what the row holds.
+#[derive(Clone, Copy, Debug, Default, PartialEq, Eq)]
 pub struct Parent(pub u32);
 
 // A node's row, word by word.
-#[derive(Clone, Copy, Default)]
+#[derive(Clone, Copy, Debug, Default, PartialEq, Eq)]
 pub struct Row {
     pub kind: u32,
     pub from: Place,
@@ -29,19 +29,19 @@ pub struct Row {
 pub fn read_row(table: &[u32], node: Node) -> Row
     ensures { row_told result ≡ row_at table.now node.0 }
 {
-    if table.len() / ROW_WORDS <= node.0 {
+    let (rows, _) = table.as_chunks::<ROW_WORDS>();
+    let Some(&[kind, from, to, keyfrom, keyto, parent, children, past]) = rows.get(node.0) else {
         return Row::default();
-    }
-    let at = ROW_WORDS * node.0;
+    };
     Row {
-        kind: table[at],
-        from: Place(table[at + 1] as usize),
-        to: Place(table[at + 2] as usize),
-        keyfrom: Place(table[at + 3] as usize),
-        keyto: Place(table[at + 4] as usize),
-        parent: Parent(table[at + 5]),
-        children: table[at + 6],
-        past: Node(table[at + 7] as usize),
+        kind,
+        from: Place(from as usize),
+        to: Place(to as usize),
+        keyfrom: Place(keyfrom as usize),
+        keyto: Place(keyto as usize),
+        parent: Parent(parent),
+        children,
+        past: Node(past as usize),
     }
 }
 

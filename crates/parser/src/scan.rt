@@ -9,8 +9,8 @@ use crate::Place;
 // Eight spaces as one number.
 const EIGHT_SPACES: u64 = 0x2020202020202020;
 
-// The classes of bytes that runs are made of.
-#[derive(Clone, Copy)]
+// The classes of bytes that runs are made of. An enum and no closure: `run_of` is public and promised (docs/PROMISES.md).
+#[derive(Clone, Copy, Debug, PartialEq, Eq)]
 pub enum Class {
     Blank,
     Ident,
@@ -26,12 +26,11 @@ pub(crate) struct Name {
     pub end: Place,
 }
 
-// The byte at a place, 0 past the end: no byte that reading looks for is 0.
+// The byte at a place, 0 past the end. A byte and no Option: no byte that reading looks for is 0, and one comparison serves for both.
 pub(crate) fn peek(text: &[u8], at: Place) -> u8
     ensures { result ≡ slice_index text.now at.0 }
 {
-    let i = at.0;
-    if i < text.len() { text[i] } else { 0 }
+    text.get(at.0).copied().unwrap_or(0)
 }
 
 // The end of the run of bytes of this class that begins here.
@@ -54,7 +53,7 @@ fn blanks(text: &[u8], at: Place) -> Place
     blank_run(text, at)
 }
 
-// Blank by blank. Most are spaces, many in a row, and those are passed eight at a time.
+// Blank by blank. No `for`: a turn passes a blank and the spaces after it, many in a row and eight at a time.
 fn blank_run(text: &[u8], at: Place) -> Place
     ensures { result.0 ≡ end_of blank text.now at.0 }
 {
@@ -70,16 +69,14 @@ fn spaces(text: &[u8], at: Place) -> Place
     requires { at.0 ≤ length text.now }
     ensures { Spaces text.now at.0 result.0 }
 {
-    let mut end = at.0;
     let (eights, _) = text[at.0..].as_chunks::<8>();
-    for eight in eights {
+    for (i, eight) in eights.iter().enumerate() {
         let n = spaces_of_eight(eight);
         if n < 8 {
-            return Place(end + n as usize);
+            return Place(at.0 + 8 * i + n as usize);
         }
-        end += 8;
     }
-    Place(end)
+    Place(at.0 + 8 * eights.len())
 }
 
 // So many of eight bytes, the first ones, are spaces: with eight spaces taken off, as many bytes are 0.
@@ -94,12 +91,11 @@ fn spaces_of_eight(eight: &[u8; 8]) -> u32
 fn run(text: &[u8], at: Place, class: Class) -> Place
     ensures { result.0 ≡ end_of (class_of class) text.now at.0 }
 {
-    for i in at.0..text.len() {
-        if !has(class, text[i]) {
-            return Place(i);
-        }
-    }
-    Place(at.0.max(text.len()))
+    let Some(rest) = text.get(at.0..) else {
+        return at;
+    };
+    let other = rest.iter().position(|b| !has(class, *b));
+    Place(at.0 + other.unwrap_or(rest.len()))
 }
 
 // The place of the first byte of 128 or more, or the text's length. Nearly every text has none, and the loop that finds the
@@ -117,18 +113,7 @@ pub(crate) fn ascii_end(text: &[u8]) -> Place
 fn greatest(text: &[u8]) -> u8
     ensures { (k : ℕ) → k < length text.now → slice_index text.now k ≤ result }
 {
-    let mut most: u8 = 0;
-    for b in text {
-        most = most.max(*b);
-    }
-    most
-}
-
-// The end of the identifier that begins here.
-fn ident(text: &[u8], at: Place) -> Place
-    ensures { result.0 ≡ end_of ident_byte text.now at.0 }
-{
-    run_of(text, at, Class::Ident)
+    text.iter().copied().max().unwrap_or(0)
 }
 
 // An identifier and the blanks around it.
@@ -136,7 +121,7 @@ pub(crate) fn trimmed_ident(text: &[u8], at: Place) -> Name
     ensures { NamedAt text.now at.0 result.from.0 result.to.0 result.end.0 }
 {
     let from = run_of(text, at, Class::Blank);
-    let to = ident(text, from);
+    let to = run_of(text, from, Class::Ident);
     let end = run_of(text, to, Class::Blank);
     Name { from, to, end }
 }
@@ -156,7 +141,7 @@ fn has(class: Class, b: u8) -> bool
 fn is_blank(b: u8) -> bool
     ensures { result ≡ blank b }
 {
-    b == b' ' || b == b'\t' || b == b'\n' || b == b'\r'
+    matches!(b, b' ' | b'\t' | b'\n' | b'\r')
 }
 
 // Early returns, here and in the three below: with `||`, `matches!` or the library's `is_ascii_alphanumeric` the compiler looks for

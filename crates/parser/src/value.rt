@@ -52,7 +52,7 @@ pub(crate) enum Opener {
     Container(Kind),
 }
 
-// A child's key, 0 and 0 where it has none, and the place where its value is due.
+// A child's key and the place where its value is due. Ends of 0 and 0 and no Option where it has none: that is what the row shows.
 #[derive(Clone, Copy)]
 pub(crate) struct Key {
     pub from: Place,
@@ -135,15 +135,11 @@ fn enter(opener: Opener, at: Place, node: Node, left: usize) -> Result<Place, Re
     requires { (at.0 ≤ max_text) × (node.0 ≤ max_nodes) }
     ensures { Opens opener at.0 node.0 left result }
 {
-    if let Opener::Container(_) = opener {
-        if left == 0 {
-            return Err(Fault::TooDeep.at(at));
-        }
+    match opener {
+        Opener::Container(_) if left == 0 => Err(Fault::TooDeep.at(at)),
+        _ if node.0 == MAX_NODES => Err(Fault::TooMany.at(at)),
+        _ => Ok(Place(at.0 + 1)),
     }
-    if node.0 == MAX_NODES {
-        return Err(Fault::TooMany.at(at));
-    }
-    Ok(Place(at.0 + 1))
 }
 
 // Where the value stands that a text begins with: no key, no parent.
@@ -270,6 +266,7 @@ fn list(
     let mut count = 0;
     let mut depth: usize = 0;
     loop {
+        // Not `?`: the form in which a step hands its refusal straight up was asked for (docs/DECISIONS.md).
         let step = key_value(text, table, from, next, kind, left, parent);
         let Ok(read) = step else {
             return step;

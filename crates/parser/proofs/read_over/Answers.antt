@@ -1,7 +1,6 @@
 -- `read_over` meets its contract: the counted words are lent, what is found gives the answer, and the answer says whether they are to be cleared.
 -- Assumes nothing.
-use Rattle.std.proofs.Common.{◌≡◌, ◌≤◌, ◌++◌, length, drop, sym, ap, ◌∙◌, arith, length-take-le}
-use lib.Seq.{length_front}
+use Rattle.std.proofs.Common.{length, sym, ap, ◌∙◌, length-take-le}
 use Rattle.cel_text.specs.Table.{node_words, nodes_left}
 use Rattle.cel_text.specs.Answer.{Answer}
 use Rattle.parser.specs.Found.{stale_from}
@@ -14,19 +13,11 @@ returns-then-table-lt-NODE_WORDS c =
     let h = c.if-table-lt-NODE_WORDS.true in
     record { answer = c.too_short.ensures ∙ answer-short a.text.now (length a.table.now) h; table = over-short a.text.now a.table.now h }
 
-pub slice_bounds-find-end-2 : goal.slice_bounds-find-end-2
-slice_bounds-find-end-2 c = sym (length-take-le node_words c.args.table.now c.if-table-lt-NODE_WORDS.false)
+pub slice_bounds-counted-end-2 : goal.slice_bounds-counted-end-2
+slice_bounds-counted-end-2 c = sym (length-take-le node_words c.args.table.now c.if-table-lt-NODE_WORDS.false)
 
 pub find-found-requires : goal.find-found-requires
 find-found-requires c = length-take-le node_words c.args.table.now c.if-table-lt-NODE_WORDS.false
-
-pub slice_bounds-clear-end-2 : goal.slice_bounds-clear-end-2
-slice_bounds-clear-end-2 c =
-    let w = c.args.table.now in
-    let w' = c.find-found.new.table in
-    let long : length (w' ++ drop node_words w) ≡ length w = length_front w w' node_words c.find-found.auto.table in
-    let room : node_words ≤ length (w' ++ drop node_words w) = omega (arith, c.if-table-lt-NODE_WORDS.false) in
-    sym (length-take-le node_words (w' ++ drop node_words w) room)
 
 pub returns : goal.returns
 returns c =
