@@ -1,6 +1,6 @@
 // From the node table to a policy, or to a refusal of 7 to 16: the four steps of SPEC.md, over the nodes' numbers.
-ghost use Rattle.std.specs.Prelude.{◌≡◌, ◌+◌, ◌≤◌};
-ghost use Rattle.cel_text.specs.Tree.{array, object};
+ghost use Rattle.std.specs.Prelude.{◌≡◌, ◌≤◌};
+ghost use Rattle.cel_text.specs.Tree.{object};
 ghost use Rattle.cel_text.specs.Table.{kind_number};
 ghost use Rattle.cel_policy.specs.Names.{ValidationArgs, Certification, RequestCertification};
 ghost use Rattle.cel_policy.specs.Mapping.{and_then, typed, lookup, exactly_one, request_lists, request_part, list_of, response_part, certification_parts, validation_args, mapping};
@@ -21,7 +21,9 @@ use parser::row::read_row;
 use parser::{
     ARRAY, EXTRANEOUS_REQUEST_CERTIFICATION_PROPERTY, EXTRANEOUS_RESPONSE_CERTIFICATION_PROPERTY,
     EXTRANEOUS_VALIDATION_ARGS_PROPERTY, FUNCTION, MISSING_FUNCTION_PARAMETER,
-    MISSING_OBJECT_PROPERTY, Node, OBJECT, STRING, UNEXPECTED_NODE_NAME, UNEXPECTED_NODE_TYPE,
+    MISSING_OBJECT_PROPERTY, MISSING_REQUEST_CERTIFICATION_PROPERTY,
+    MISSING_RESPONSE_CERTIFICATION_PROPERTY, MISSING_VALIDATION_ARGS_PROPERTY, Node, OBJECT,
+    STRING, UNEXPECTED_NODE_NAME, UNEXPECTED_NODE_TYPE,
 };
 
 // A refusal of 7 to 16: its number, the expected name and kind, and the node. Numbers and no enum: SPEC.md's, as the answer has them, and matched by ranges.
@@ -33,7 +35,7 @@ pub(crate) struct Refusal {
     pub node: Node,
 }
 
-// Which of two is there, where exactly one should be.
+// Which of two is there, where exactly one should be. No Result: neither of the two is a refusal.
 #[derive(Clone, Copy)]
 pub(crate) enum Only<T> {
     First(T),
@@ -70,6 +72,7 @@ pub(crate) enum Mapped {
 }
 
 // The kind that a name expects: a function, the lists of strings, and otherwise an object.
+// By numbers and ranges: a form that was asked for (docs/DECISIONS.md).
 fn expected_kind(name: u32) -> u32
     ensures { result ≡ kind_number (expected_kind name) }
 {
@@ -81,7 +84,7 @@ fn expected_kind(name: u32) -> u32
     }
 }
 
-// The fields that a refusal uses; the others are 0.
+// The fields that a refusal uses; the others are 0. By numbers and ranges: a form that was asked for (docs/DECISIONS.md).
 fn refused(refusal: u32, name: u32, node: Node) -> Refusal
     ensures { refusal_told result ≡ fields_used refusal name node.0 }
 {
@@ -130,12 +133,11 @@ fn validate_node(node: &TreeNode, name: u32) -> Result<(), Refusal>
 
 // An array of strings. As long as its elements are strings, their numbers follow one another.
 fn validate_string_array(list: &TreeNode, name: u32) -> Result<(), Refusal>
-    requires { expected_kind name ≡ array }
     ensures { ListChecked list.now name result }
 {
     let row = list.row();
-    if row.kind != expected_kind(name) {
-        return Err(refused(UNEXPECTED_NODE_TYPE, name, list.number));
+    if row.kind != ARRAY {
+        return Err(unexpected_type(name, ARRAY, list.number));
     }
     for next in list.number.0 + 1..row.past.0 {
         let element = Node(next);
@@ -146,27 +148,27 @@ fn validate_string_array(list: &TreeNode, name: u32) -> Result<(), Refusal>
     Ok(())
 }
 
-// One of two, in this object: else `both`, or the number after it where neither is there.
+// One of two, in this object: else `both`, or `neither`.
 fn exactly_one<T: Copy>(
     first: Option<T>,
     second: Option<T>,
     both: u32,
+    neither: u32,
     object: Node,
 ) -> Result<Only<T>, Refusal>
-    requires { (11 ≤ both) × (both ≤ 15) }
-    ensures { given_as (only_as (λ a. a)) result ≡ exactly_one both (both + 1) object.0 (found_as (λ a. a) first) (found_as (λ a. a) second) }
+    requires { (11 ≤ both) × (11 ≤ neither) }
+    ensures { given_as (only_as (λ a. a)) result ≡ exactly_one both neither object.0 (found_as (λ a. a) first) (found_as (λ a. a) second) }
 {
     match (first, second) {
         (Some(_), Some(_)) => Err(refused(both, 0, object)),
         (Some(one), None) => Ok(Only::First(one)),
         (None, Some(one)) => Ok(Only::Second(one)),
-        (None, None) => Err(refused(both + 1, 0, object)),
+        (None, None) => Err(refused(neither, 0, object)),
     }
 }
 
 // The list of strings at this key of the object.
 fn string_list(object: &TreeNode, name: u32) -> Result<Node, Refusal>
-    requires { expected_kind name ≡ array }
     ensures { Listing object.now name result }
 {
     let Some(list) = object.lookup(name) else {
@@ -194,6 +196,7 @@ fn validate_request_certification(certification: &TreeNode) -> Result<Option<Req
         certification.lookup(NO_REQUEST_CERTIFICATION),
         certification.lookup(REQUEST_CERTIFICATION),
         EXTRANEOUS_REQUEST_CERTIFICATION_PROPERTY,
+        MISSING_REQUEST_CERTIFICATION_PROPERTY,
         certification.number,
     )?;
     match only {
@@ -204,7 +207,6 @@ fn validate_request_certification(certification: &TreeNode) -> Result<Option<Req
 
 // The strings under key `headers` of the list object at this key, where both keys are present.
 fn response_headers(object: &TreeNode, name: u32) -> Result<Option<Node>, Refusal>
-    requires { expected_kind name ≡ array }
     ensures { HeadersFound object.now result (list_of name (lookup name (children (node_of object.now)))) }
 {
     let Some(list) = object.lookup(name) else {
@@ -236,6 +238,7 @@ fn validate_response_certification(certification: &TreeNode) -> Result<Only<Node
         included,
         excluded,
         EXTRANEOUS_RESPONSE_CERTIFICATION_PROPERTY,
+        MISSING_RESPONSE_CERTIFICATION_PROPERTY,
         response.number,
     )
 }
@@ -279,6 +282,7 @@ fn validate_arguments(arguments: &TreeNode) -> Result<Mapped, Refusal>
         arguments.lookup(NO_CERTIFICATION),
         arguments.lookup(CERTIFICATION),
         EXTRANEOUS_VALIDATION_ARGS_PROPERTY,
+        MISSING_VALIDATION_ARGS_PROPERTY,
         arguments.number,
     )?;
     match only {

@@ -1,6 +1,6 @@
 // The span table: start and end of each string of a policy, request headers first, then query parameters, then response headers.
 ghost use Rattle.std.specs.Prelude.{◌≡◌, ◌+◌, ◌*◌, ◌≤◌, length, MatchResult};
-ghost use Rattle.cel_policy.specs.Policy.{Span, counted, numbers, string_count, all_strings};
+ghost use Rattle.cel_policy.specs.Policy.{Span, counted, numbers, all_strings};
 ghost use Rattle.cel_policy.specs.Mapping.{skipped};
 ghost use Rattle.cel_policy.specs.Spans.{spans_left};
 ghost use Rattle.parser.specs.Found.{told};
@@ -10,7 +10,7 @@ ghost use Rattle.ast_mapping.specs.Steps.{refusal_told, SmallNode, list_number, 
 ghost use Rattle.ast_mapping.specs.Spans.{PutList, Put, strings_in, few, spare_from, refused_in, Settled};
 
 use crate::mapping::{ListKind, Mapped, Refusal, Request, Response};
-use crate::{PolicyAnswer, SPAN_WORDS, without_policy};
+use crate::{PolicyAnswer, SPAN_WORDS};
 use cel_policy::{EXCLUSIONS, FULL, INCLUSIONS, Policy, RESPONSE_ONLY, SKIP};
 use parser::row::read_row;
 use parser::{ACCEPTED, Answer, Node, TABLE_TOO_SHORT};
@@ -23,6 +23,7 @@ fn put_list(table: &[u32], list: Node, spans: &mut [u32], from: usize) -> usize
 {
     let first = list.0 + 1;
     let count = read_row(table, list).past.0 - first;
+    // By index: `as_chunks_mut` says nothing of what the slice ends as.
     for i in 0..count {
         let string = read_row(table, Node(first + i));
         let at = 2 * (from + i);
@@ -85,14 +86,8 @@ fn put_full(table: &[u32], request: Request, response: Response, spans: &mut [u3
     }
 }
 
-// The first word after the strings of this policy.
-pub(crate) fn strings_end(policy: Policy) -> usize
-    ensures { result ≡ 2 * string_count (numbers policy) }
-{
-    2 * (policy.request as usize + policy.query as usize + policy.response as usize)
-}
-
 // The first of the counted words that a read with this refusal has to set to 0: after an accepted policy's strings that is `end`.
+// By the refusal's number: a form that was asked for (docs/DECISIONS.md).
 pub(crate) fn spare(refusal: u32, end: usize) -> usize
     ensures { result ≡ spare_from (spans_left refusal) end }
 {
@@ -146,6 +141,6 @@ pub(crate) fn settle(
             answer: tree,
             policy: put_policy(table, policy, spans),
         },
-        Err(refusal) => without_policy(refused_in(tree, refusal)),
+        Err(refusal) => refused_in(tree, refusal).into(),
     }
 }
