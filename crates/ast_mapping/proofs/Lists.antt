@@ -8,7 +8,7 @@ use lib.Seq.{slice}
 use borrow.Author.Tests.{eqb-false}
 use Rattle.std.specs.Prelude.{Ok, Err}
 use Rattle.cel_text.specs.Byte.{Text}
-use Rattle.cel_text.specs.Tree.{Kind, array, object, function}
+use Rattle.cel_text.specs.Tree.{array, object, function}
 use Rattle.cel_text.specs.Table.{Words, kind_number, string_kind, word, row_at}
 use Rattle.cel_policy.specs.Policy.{Span}
 use Rattle.cel_policy.specs.Mapping.{Node, leaf, branch, Nodes, childless, ◌▹◌∶◌, Refusal, good, bad, unexpected_type, element, elements, string_array}
@@ -18,7 +18,7 @@ use Rattle.parser.specs.declared.row.Row.{Row}
 use Rattle.ast_mapping.specs.View.{RowRead, span_of, spans_from, strings_of, node_at, number, children, Stands, Held, Tabled}
 use Rattle.ast_mapping.specs.declared.tree.TreeNode.{TreeNode}
 use Rattle.ast_mapping.specs.declared.mapping.Refusal.{Refusal as Told}
-use Rattle.ast_mapping.specs.Steps.{expected_kind, refusal_told, fields_used, kind_refused, ListChecked}
+use Rattle.ast_mapping.specs.Steps.{refusal_told, kind_refused, ListChecked}
 use Rattle.ast_mapping.proofs.View.{row_read, no-string, Begins, all, less, begins-none, Child, next-child, last-child, tabled, tabled-row, tabled-small}
 use Rattle.ast_mapping.proofs.Parts.{refuses}
 
@@ -139,28 +139,25 @@ module _ (w : Words) (x : Text) where
 
 -- ---- an array of strings that is validated, whose row was read
 
-module _ (e : TreeNode) (name : ℕ) (a : expected_kind name ≡ array) {row : Row}
-    (k : RowRead e.table.now e.number.0 row) {kind : ℕ} (i : kind ≡ kind_number (expected_kind name)) where
+module _ (e : TreeNode) (name : ℕ) {row : Row} (k : RowRead e.table.now e.number.0 row) where
   list_tabled : Tabled e.table.now e.number.0
   list_tabled = tabled e.table.now e.text.now e.number.0 e.held
 
-  pub no-list : {r : Told} → (row.kind ≡ kind → ⊥) → refusal_told r ≡ fields_used 7 name e.number.0 → ListChecked e name (Err r)
+  pub no-list : {r : Told} → (row.kind ≡ kind_number array → ⊥) → refusal_told r ≡ kind_refused name (kind_number array) e.number.0 → ListChecked e name (Err r)
   no-list h t =
-      refuses t
-      (ap (λ (c : Kind). unexpected_type name (kind_number c) e.number.0) a
-      ∙ wrong-array e.table.now e.text.now name e.number.0 e.held (λ f. h (k.kind ∙ f ∙ sym (i ∙ ap kind_number a))))
+      refuses t (wrong-array e.table.now e.text.now name e.number.0 e.held (λ f. h (k.kind ∙ f)))
       (tabled-small list_tabled e.number.0 list_tabled.begun)
 
-  module _ (h : row.kind ≡ kind) (next : ℕ) (first : e.number.0 + 1 ≤ next) (are : (i : ℕ) → e.number.0 + 1 ≤ i → i < next → word e.table.now i 0 ≡ string_kind) where
+  module _ (h : row.kind ≡ kind_number array) (next : ℕ) (first : e.number.0 + 1 ≤ next) (are : (i : ℕ) → e.number.0 + 1 ≤ i → i < next → word e.table.now i 0 ≡ string_kind) where
     of-array : word e.table.now e.number.0 0 ≡ kind_number array
-    of-array = sym k.kind ∙ h ∙ i ∙ ap kind_number a
+    of-array = sym k.kind ∙ h
 
     pub all-strings : row.past.0 ≤ next → (e.number.0 + 1 ≤ row.past.0 → next ≤ row.past.0) → ListChecked e name (Ok tt)
     all-strings l m =
         let end : next ≤ row.past.0 = m (omega (arith, k.past, list_tabled.begun)) in
         record {
           is = strings-are e.table.now e.text.now name e.number.0 e.held of-array next (omega arith) (λ i a b. are i (omega arith) b) (omega (arith, k.past));
-          inside = tt;
+          small = tt;
         }
 
     -- the next element

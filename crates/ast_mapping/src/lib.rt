@@ -28,6 +28,18 @@ pub struct PolicyAnswer {
 
 pub const SPAN_WORDS: usize = 512;
 
+// An answer of reading a tree that stands for itself.
+impl From<Answer> for PolicyAnswer {
+    ghost from_gives = { λ answer r. policy_told r ≡ record { answer = told answer; policy = no_policy } };
+
+    fn from(answer: Answer) -> PolicyAnswer {
+        PolicyAnswer {
+            answer,
+            policy: Policy::default(),
+        }
+    }
+}
+
 // Reads the text and maps its tree. Where a table is too short neither is touched; of longer ones the first 2,048 and 512 words count,
 // and those after the rows and after the strings are 0.
 pub fn read_policy(text: &[u8], nodes: &mut [u32], spans: &mut [u32]) -> PolicyAnswer
@@ -40,7 +52,7 @@ pub fn read_policy(text: &[u8], nodes: &mut [u32], spans: &mut [u32]) -> PolicyA
     }
     let tree = parser::read_tree(text, nodes);
     let read = map_tree(text, tree, nodes, &mut spans[..SPAN_WORDS]);
-    let end = span::strings_end(read.policy);
+    let end = 2 * read.policy.strings();
     parser::row::clear(
         &mut spans[..SPAN_WORDS],
         span::spare(read.answer.refusal, end),
@@ -74,25 +86,15 @@ fn map_tree(text: &[u8], tree: Answer, nodes: &[u32], spans: &mut [u32]) -> Poli
     ensures { TreeMapped text.now tree nodes.now spans.old spans.new result }
 {
     if tree.refusal != ACCEPTED {
-        return without_policy(tree);
+        return tree.into();
     }
     let mapped = mapping::map_cel_ast(text, nodes);
-    span::settle(nodes, mapped, tree, spans)
+    span::settle(mapped, tree, spans)
 }
 
 // A refusal of 1: nothing was read.
 fn too_short() -> PolicyAnswer
     ensures { policy_told result ≡ policy_answered (unread 1 0) }
 {
-    without_policy(parser::too_short())
-}
-
-// An answer of reading a tree that stands for itself.
-pub(crate) fn without_policy(answer: Answer) -> PolicyAnswer
-    ensures { policy_told result ≡ record { answer = told answer; policy = no_policy } }
-{
-    PolicyAnswer {
-        answer,
-        policy: Policy::default(),
-    }
+    parser::too_short().into()
 }

@@ -1,11 +1,11 @@
 // From the node table to a policy, or to a refusal of 7 to 16: the four steps of SPEC.md, over the nodes' numbers.
-ghost use Rattle.std.specs.Prelude.{◌≡◌, ◌+◌, ◌≤◌};
-ghost use Rattle.cel_text.specs.Tree.{array, object};
+ghost use Rattle.std.specs.Prelude.{◌≡◌, ◌≤◌};
+ghost use Rattle.cel_text.specs.Tree.{object};
 ghost use Rattle.cel_text.specs.Table.{kind_number};
 ghost use Rattle.cel_policy.specs.Names.{ValidationArgs, Certification, RequestCertification};
 ghost use Rattle.cel_policy.specs.Mapping.{and_then, typed, lookup, exactly_one, request_lists, request_part, list_of, response_part, certification_parts, validation_args, mapping};
 ghost use Rattle.ast_mapping.specs.View.{node_at, children, Held};
-ghost use Rattle.ast_mapping.specs.Steps.{expected_kind, refusal_told, kind_refused, fields_used, node_of, typed_of, found_as, given_as, only_as, Checked, ListChecked, Present, Listing};
+ghost use Rattle.ast_mapping.specs.Steps.{expected_kind, refusal_told, kind_refused, fields_used, node_of, typed_of, found_as, given_as, only_as, Checked, ListChecked, Listing};
 ghost use Rattle.ast_mapping.specs.Steps.{RequestFound, Requested, HeadersFound, Responded, certified_as, Maps};
 
 use crate::name;
@@ -21,7 +21,9 @@ use parser::row::read_row;
 use parser::{
     ARRAY, EXTRANEOUS_REQUEST_CERTIFICATION_PROPERTY, EXTRANEOUS_RESPONSE_CERTIFICATION_PROPERTY,
     EXTRANEOUS_VALIDATION_ARGS_PROPERTY, FUNCTION, MISSING_FUNCTION_PARAMETER,
-    MISSING_OBJECT_PROPERTY, Node, OBJECT, STRING, UNEXPECTED_NODE_NAME, UNEXPECTED_NODE_TYPE,
+    MISSING_OBJECT_PROPERTY, MISSING_REQUEST_CERTIFICATION_PROPERTY,
+    MISSING_RESPONSE_CERTIFICATION_PROPERTY, MISSING_VALIDATION_ARGS_PROPERTY, Node, OBJECT,
+    STRING, UNEXPECTED_NODE_NAME, UNEXPECTED_NODE_TYPE,
 };
 
 // A refusal of 7 to 16: its number, the expected name and kind, and the node. Numbers and no enum: SPEC.md's, as the answer has them, and matched by ranges.
@@ -33,7 +35,7 @@ pub(crate) struct Refusal {
     pub node: Node,
 }
 
-// Which of two is there, where exactly one should be.
+// Which of two is there, where exactly one should be. No Result: neither of the two is a refusal.
 #[derive(Clone, Copy)]
 pub(crate) enum Only<T> {
     First(T),
@@ -42,9 +44,9 @@ pub(crate) enum Only<T> {
 
 // The request part: its two lists of strings.
 #[derive(Clone, Copy)]
-pub(crate) struct Request {
-    pub headers: Node,
-    pub query: Node,
+pub(crate) struct Request<'a> {
+    pub headers: TreeNode<'a>,
+    pub query: TreeNode<'a>,
 }
 
 // The kind of the response part's list.
@@ -56,20 +58,21 @@ pub(crate) enum ListKind {
 
 // The response part: its list of strings.
 #[derive(Clone, Copy)]
-pub(crate) struct Response {
+pub(crate) struct Response<'a> {
     pub kind: ListKind,
-    pub list: Node,
+    pub list: TreeNode<'a>,
 }
 
 // A policy, by the nodes of its lists of strings.
 #[derive(Clone, Copy)]
-pub(crate) enum Mapped {
+pub(crate) enum Mapped<'a> {
     Skip,
-    ResponseOnly(Response),
-    Full(Request, Response),
+    ResponseOnly(Response<'a>),
+    Full(Request<'a>, Response<'a>),
 }
 
 // The kind that a name expects: a function, the lists of strings, and otherwise an object.
+// By numbers and ranges: a form that was asked for (docs/DECISIONS.md).
 fn expected_kind(name: u32) -> u32
     ensures { result ≡ kind_number (expected_kind name) }
 {
@@ -81,7 +84,7 @@ fn expected_kind(name: u32) -> u32
     }
 }
 
-// The fields that a refusal uses; the others are 0.
+// The fields that a refusal uses; the others are 0. By numbers and ranges: a form that was asked for (docs/DECISIONS.md).
 fn refused(refusal: u32, name: u32, node: Node) -> Refusal
     ensures { refusal_told result ≡ fields_used refusal name node.0 }
 {
@@ -130,12 +133,11 @@ fn validate_node(node: &TreeNode, name: u32) -> Result<(), Refusal>
 
 // An array of strings. As long as its elements are strings, their numbers follow one another.
 fn validate_string_array(list: &TreeNode, name: u32) -> Result<(), Refusal>
-    requires { expected_kind name ≡ array }
     ensures { ListChecked list.now name result }
 {
     let row = list.row();
-    if row.kind != expected_kind(name) {
-        return Err(refused(UNEXPECTED_NODE_TYPE, name, list.number));
+    if row.kind != ARRAY {
+        return Err(unexpected_type(name, ARRAY, list.number));
     }
     for next in list.number.0 + 1..row.past.0 {
         let element = Node(next);
@@ -146,47 +148,39 @@ fn validate_string_array(list: &TreeNode, name: u32) -> Result<(), Refusal>
     Ok(())
 }
 
-// One of two, in this object: else `both`, or the number after it where neither is there.
+// One of two, in this object: else `both`, or `neither`.
 fn exactly_one<T: Copy>(
     first: Option<T>,
     second: Option<T>,
     both: u32,
+    neither: u32,
     object: Node,
 ) -> Result<Only<T>, Refusal>
-    requires { (11 ≤ both) × (both ≤ 15) }
-    ensures { given_as (only_as (λ a. a)) result ≡ exactly_one both (both + 1) object.0 (found_as (λ a. a) first) (found_as (λ a. a) second) }
+    requires { (11 ≤ both) × (11 ≤ neither) }
+    ensures { given_as (only_as (λ a. a)) result ≡ exactly_one both neither object.0 (found_as (λ a. a) first) (found_as (λ a. a) second) }
 {
     match (first, second) {
         (Some(_), Some(_)) => Err(refused(both, 0, object)),
         (Some(one), None) => Ok(Only::First(one)),
         (None, Some(one)) => Ok(Only::Second(one)),
-        (None, None) => Err(refused(both + 1, 0, object)),
-    }
-}
-
-// What stands at this key of the object, where a key has to be.
-fn property<'a>(object: &TreeNode<'a>, name: u32) -> Result<TreeNode<'a>, Refusal>
-    ensures { Present object.now name result }
-{
-    match object.lookup(name) {
-        Some(node) => Ok(node),
-        None => Err(refused(MISSING_OBJECT_PROPERTY, name, object.number)),
+        (None, None) => Err(refused(neither, 0, object)),
     }
 }
 
 // The list of strings at this key of the object.
-fn string_list(object: &TreeNode, name: u32) -> Result<Node, Refusal>
-    requires { expected_kind name ≡ array }
+fn string_list<'a>(object: &TreeNode<'a>, name: u32) -> Result<TreeNode<'a>, Refusal>
     ensures { Listing object.now name result }
 {
-    let list = property(object, name)?;
+    let Some(list) = object.lookup(name) else {
+        return Err(refused(MISSING_OBJECT_PROPERTY, name, object.number));
+    };
     validate_string_array(&list, name)?;
-    Ok(list.number)
+    Ok(list)
 }
 
 // An object 8 with its two lists.
-fn request_lists(request: &TreeNode) -> Result<Request, Refusal>
-    ensures { RequestFound request.now result (and_then (typed object RequestCertification (node_of request.now)) request_lists) }
+fn request_lists<'a>(request: &TreeNode<'a>) -> Result<Request<'a>, Refusal>
+    ensures { RequestFound result (and_then (typed object RequestCertification (node_of request.now)) request_lists) }
 {
     validate_node(request, REQUEST_CERTIFICATION_OBJECT)?;
     let headers = string_list(request, CERTIFIED_REQUEST_HEADERS)?;
@@ -195,13 +189,16 @@ fn request_lists(request: &TreeNode) -> Result<Request, Refusal>
 }
 
 // The request part of an object 5, where it has one.
-fn validate_request_certification(certification: &TreeNode) -> Result<Option<Request>, Refusal>
-    ensures { Requested certification.now result (request_part (typed_of certification.now)) }
+fn validate_request_certification<'a>(
+    certification: &TreeNode<'a>,
+) -> Result<Option<Request<'a>>, Refusal>
+    ensures { Requested result (request_part (typed_of certification.now)) }
 {
     let only = exactly_one(
         certification.lookup(NO_REQUEST_CERTIFICATION),
         certification.lookup(REQUEST_CERTIFICATION),
         EXTRANEOUS_REQUEST_CERTIFICATION_PROPERTY,
+        MISSING_REQUEST_CERTIFICATION_PROPERTY,
         certification.number,
     )?;
     match only {
@@ -211,9 +208,8 @@ fn validate_request_certification(certification: &TreeNode) -> Result<Option<Req
 }
 
 // The strings under key `headers` of the list object at this key, where both keys are present.
-fn response_headers(object: &TreeNode, name: u32) -> Result<Option<Node>, Refusal>
-    requires { expected_kind name ≡ array }
-    ensures { HeadersFound object.now result (list_of name (lookup name (children (node_of object.now)))) }
+fn response_headers<'a>(object: &TreeNode<'a>, name: u32) -> Result<Option<TreeNode<'a>>, Refusal>
+    ensures { HeadersFound result (list_of name (lookup name (children (node_of object.now)))) }
 {
     let Some(list) = object.lookup(name) else {
         return Ok(None);
@@ -223,14 +219,22 @@ fn response_headers(object: &TreeNode, name: u32) -> Result<Option<Node>, Refusa
         return Ok(None);
     };
     validate_string_array(&headers, name)?;
-    Ok(Some(headers.number))
+    Ok(Some(headers))
 }
 
 // The response part of an object 5. Both lists are looked at before either is found to be one too many.
-fn validate_response_certification(certification: &TreeNode) -> Result<Only<Node>, Refusal>
-    ensures { Responded certification.now result (response_part (typed_of certification.now)) }
+fn validate_response_certification<'a>(
+    certification: &TreeNode<'a>,
+) -> Result<Only<TreeNode<'a>>, Refusal>
+    ensures { Responded result (response_part (typed_of certification.now)) }
 {
-    let response = property(certification, RESPONSE_CERTIFICATION)?;
+    let Some(response) = certification.lookup(RESPONSE_CERTIFICATION) else {
+        return Err(refused(
+            MISSING_OBJECT_PROPERTY,
+            RESPONSE_CERTIFICATION,
+            certification.number,
+        ));
+    };
     validate_node(&response, RESPONSE_CERTIFICATION_OBJECT)?;
     let included = response_headers(&response, CERTIFIED_RESPONSE_HEADERS)?;
     let excluded = response_headers(&response, RESPONSE_HEADER_EXCLUSIONS)?;
@@ -238,13 +242,14 @@ fn validate_response_certification(certification: &TreeNode) -> Result<Only<Node
         included,
         excluded,
         EXTRANEOUS_RESPONSE_CERTIFICATION_PROPERTY,
+        MISSING_RESPONSE_CERTIFICATION_PROPERTY,
         response.number,
     )
 }
 
 // The policy of the two parts.
-fn certified(request: Option<Request>, response: Only<Node>) -> Mapped
-    ensures { result ≡ certified_as request response }
+fn certified<'a>(request: Option<Request<'a>>, response: Only<TreeNode<'a>>) -> Mapped<'a>
+    ensures { result ≡ certified_as request.entry response.entry }
 {
     let response = match response {
         Only::First(list) => Response {
@@ -263,8 +268,8 @@ fn certified(request: Option<Request>, response: Only<Node>) -> Mapped
 }
 
 // An object 5 with its two parts.
-fn validate_certification(certification: &TreeNode) -> Result<Mapped, Refusal>
-    ensures { Maps certification.now.table.now result (and_then (typed object Certification (node_of certification.now)) certification_parts) }
+fn validate_certification<'a>(certification: &TreeNode<'a>) -> Result<Mapped<'a>, Refusal>
+    ensures { Maps result (and_then (typed object Certification (node_of certification.now)) certification_parts) }
 {
     validate_node(certification, CERTIFICATION_OBJECT)?;
     let request = validate_request_certification(certification)?;
@@ -273,14 +278,15 @@ fn validate_certification(certification: &TreeNode) -> Result<Mapped, Refusal>
 }
 
 // An object 2, and in it the policy.
-fn validate_arguments(arguments: &TreeNode) -> Result<Mapped, Refusal>
-    ensures { Maps arguments.now.table.now result (and_then (typed object ValidationArgs (node_of arguments.now)) validation_args) }
+fn validate_arguments<'a>(arguments: &TreeNode<'a>) -> Result<Mapped<'a>, Refusal>
+    ensures { Maps result (and_then (typed object ValidationArgs (node_of arguments.now)) validation_args) }
 {
     validate_node(arguments, VALIDATION_ARGS)?;
     let only = exactly_one(
         arguments.lookup(NO_CERTIFICATION),
         arguments.lookup(CERTIFICATION),
         EXTRANEOUS_VALIDATION_ARGS_PROPERTY,
+        MISSING_VALIDATION_ARGS_PROPERTY,
         arguments.number,
     )?;
     match only {
@@ -290,9 +296,9 @@ fn validate_arguments(arguments: &TreeNode) -> Result<Mapped, Refusal>
 }
 
 // The root is a function 1, its first argument an object 2.
-pub(crate) fn map_cel_ast(text: &[u8], table: &[u32]) -> Result<Mapped, Refusal>
+pub(crate) fn map_cel_ast<'a>(text: &'a [u8], table: &'a [u32]) -> Result<Mapped<'a>, Refusal>
     requires { Held table.now text.now 0 }
-    ensures { Maps table.now result (mapping (node_at table.now text.now 0)) }
+    ensures { Maps result (mapping (node_at table.now text.now 0)) }
 {
     let root = TreeNode {
         text,

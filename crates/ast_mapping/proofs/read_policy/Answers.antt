@@ -1,7 +1,7 @@
 -- `read_policy` meets its contract: a short span table is refused first; then the tree is read and mapped, and the words after the strings are cleared.
 -- Assumes nothing.
 use mathlib.Core.Path.{ap, ◌∙◌}
-use Prim.Native.Nat.{◌*◌}
+use Prim.Native.Nat.{ℕ, ◌*◌}
 use Rattle.cel_text.specs.Table.{hold}
 use Rattle.cel_text.specs.Answer.{tree_table}
 use Rattle.cel_policy.specs.Policy.{Counted, string_count}
@@ -36,7 +36,7 @@ returns c =
     let t = c.read_tree-tree in
     let m = c.map_tree-read in
     let v = c.clear in
-    let i = c.spare.ensures ∙ ap (spare_from (spans_left m.result.answer.refusal)) c.strings_end-end.ensures in
+    let i = c.spare.ensures ∙ ap (λ (n : ℕ). spare_from (spans_left m.result.answer.refusal) (2 * n)) c.strings-end.ensures in
     let e =
     ensured hold (λ (k : Counted). 2 * string_count k) zeros a.text.now a.nodes.now a.spans.now c.if-spans-lt-SPAN_WORDS.false t.result t.new.table
     t.ensures.answer t.ensures.table m.result m.new.spans m.ensures m.auto.spans c.spare.result i v.new.table v.ensures in
