@@ -65,4 +65,16 @@ row-eight w n rows r e k h s =
     let whole : row_words * suc n ≤ length w = omega arith in
     let here : r ≡ take 8 (drop (8 * n) w) = s ∙ ap (λ (v : List Words). get_or v n []) e ∙ chunk-at (length w / 8) n w (omega arith) in
     let at : (i : ℕ) → i < 8 → get_or r i 0 ≡ get_or w (8 * n + i) 0 = λ i l. ap (λ (v : Words). get_or v i 0) here ∙ get_or-take 8 (drop (8 * n) w) i 0 l ∙ get_or-drop (8 * n) w i 0 in
-    rw (row_inside w n whole, add-zero, at 0 (omega arith), at 1 (omega arith), at 2 (omega arith), at 3 (omega arith), at 4 (omega arith), at 5 (omega arith), at 6 (omega arith), at 7 (omega arith), add-zero)
+    rw (
+      row_inside w n whole,
+      add-zero,
+      at 0 (omega arith),
+      at 1 (omega arith),
+      at 2 (omega arith),
+      at 3 (omega arith),
+      at 4 (omega arith),
+      at 5 (omega arith),
+      at 6 (omega arith),
+      at 7 (omega arith),
+      add-zero,
+    )
