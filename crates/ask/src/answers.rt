@@ -14,16 +14,15 @@ const SPANS_LENT: usize = SPAN_WORDS + 5;
 
 // The answer to a request's fields: nine fields, and the line end.
 pub(crate) fn answer(line: &[u8], out: &mut Reply) -> Option<()> {
-    let mut text = room::bytes();
+    let mut given = room::bytes();
     let mut fields = line.split(|b| *b == b'\t');
-    let n = lines::unhex(fields.next()?, &mut text)?;
+    let text = fields::text(fields.next()?, &mut given)?;
     let nodes = fields::number_or(fields.next(), NODES_LENT, MOST_WORDS)?;
     let spans = fields::number_or(fields.next(), SPANS_LENT, MOST_WORDS)?;
     let room = fields::number_or(fields.next(), MAX_TEXT, MOST_BYTES)?;
     if fields.next().is_some() {
         return None;
     }
-    let text = &text[..n];
     entry::put_tree(text, &mut room::words()[..nodes], out);
     out.put(b"\t");
     entry::put_policy(

@@ -48,8 +48,7 @@ pub(crate) fn put_policy(text: &[u8], nodes: &mut [u32], spans: &mut [u32], out:
         p.response,
     ]);
     out.put(b"\t");
-    let strings = p.request as usize + p.query as usize + p.response as usize;
-    let used = (2 * strings).min(spans.len());
+    let used = (2 * p.strings()).min(spans.len());
     out.put_words(&spans[..used]);
     out.put(b"\t");
     let rows = rows_in(nodes, a.nodes);

@@ -6,11 +6,11 @@ use cel_policy::Policy;
 
 // The answer to a request's fields: the numbers and the whole output, and the line end.
 pub(crate) fn answer(line: &[u8], out: &mut Reply) -> Option<()> {
-    let mut text = room::bytes();
+    let mut given = room::bytes();
     let mut spans = room::words();
     let mut lent = room::bytes();
     let mut fields = line.split(|b| *b == b'\t');
-    let n = lines::unhex(fields.next()?, &mut text)?;
+    let text = fields::text(fields.next()?, &mut given)?;
     let policy = Policy {
         form: fields::word(fields.next()?)?,
         kind: fields::word(fields.next()?)?,
@@ -24,7 +24,7 @@ pub(crate) fn answer(line: &[u8], out: &mut Reply) -> Option<()> {
         return None;
     }
     let lent = &mut lent[..room];
-    let a = create_cel_expr::print_policy(policy, &text[..n], &spans[..words], lent);
+    let a = create_cel_expr::print_policy(policy, text, &spans[..words], lent);
     out.put_words(&[a.refusal, a.name, a.kind, a.place, a.length]);
     out.put(b"\t");
     out.put_hex(lent);

@@ -1,12 +1,12 @@
 // `reports`: the whole report on a text, and a blank line.
 use crate::reply::Reply;
-use crate::room;
+use crate::{fields, room};
 
 // The answer to a text in hex.
 pub(crate) fn answer(field: &[u8], out: &mut Reply) -> Option<()> {
-    let mut text = room::bytes();
-    let n = lines::unhex(field, &mut text)?;
-    out.put_report(&text[..n]);
+    let mut room = room::bytes();
+    let text = fields::text(field, &mut room)?;
+    out.put_report(text);
     out.put(b"\n");
     Some(())
 }

@@ -1,7 +1,7 @@
 // `verdicts`: the line that the judge, the original Rust, writes for a text; and `limit` with the refusal's number where a limit
-// puts the text outside what the two are compared on.
+// puts the text outside what the two are compared on. The numbers of an answer, which are SPEC.md's, are put into words here, each once.
 use crate::reply::Reply;
-use crate::room;
+use crate::{fields, room};
 use ast_mapping::SPAN_WORDS;
 use cel_policy::Policy;
 use parser::{ACCEPTED, Answer, MAX_TEXT, NODE_WORDS};
@@ -89,8 +89,8 @@ fn put_strings(out: &mut Reply, text: &[u8], spans: &[[u32; 2]], first: usize, l
 fn put_policy(out: &mut Reply, policy: Policy, text: &[u8], spans: &[u32], printed: &[u8]) {
     let (spans, _) = spans.as_chunks::<2>();
     let request = policy.request as usize;
-    let query = request + policy.query as usize;
-    let response = query + policy.response as usize;
+    let query = policy.before_response();
+    let response = policy.strings();
     out.put(b"ok");
     out.put(form(policy.form));
     out.put(list_kind(policy.kind));
@@ -126,9 +126,9 @@ fn put_verdict(text: &[u8], out: &mut Reply) {
 
 // The answer to a text in hex.
 pub(crate) fn answer(field: &[u8], out: &mut Reply) -> Option<()> {
-    let mut text = room::bytes();
-    let n = lines::unhex(field, &mut text)?;
-    put_verdict(&text[..n], out);
+    let mut room = room::bytes();
+    let text = fields::text(field, &mut room)?;
+    put_verdict(text, out);
     out.put(b"\n");
     Some(())
 }

@@ -8,7 +8,7 @@ use Rattle.cel_text.specs.Reading.{max_nodes}
 use Rattle.cel_text.specs.Table.{Words}
 use Rattle.cel_text.proofs.Laws.Limit.{clash}
 use Rattle.cel_policy.specs.Policy.{Span}
-use Rattle.cel_policy.specs.Mapping.{Node, Nodes, childless, ◌▹◌∶◌, Refusal, Mapped, good, bad, and_then, missing_parameter, missing_property, exactly_one, lookup, string_array, first_child, first_of, certified}
+use Rattle.cel_policy.specs.Mapping.{Node, Nodes, childless, ◌▹◌∶◌, Refusal, Mapped, good, bad, and_then, missing_parameter, exactly_one, lookup, string_array, first_child, first_of, certified}
 use Rattle.parser.specs.declared.Node.{Node as Numbered}
 use Rattle.parser.specs.declared.row.Row.{Row}
 use Rattle.ast_mapping.specs.declared.tree.TreeNode.{TreeNode}
@@ -17,7 +17,7 @@ use Rattle.ast_mapping.specs.declared.mapping.Only.{Only as Which}
 use Rattle.ast_mapping.specs.declared.mapping.Only.TheVariants.{First, Second}
 use Rattle.ast_mapping.specs.declared.mapping.Request.{Request as Asked}
 use Rattle.ast_mapping.specs.View.{RowRead, node_at, children, Held}
-use Rattle.ast_mapping.specs.Steps.{node_of, With, Looked, refusal_told, fields_used, given_as, Gives, found_as, FoundIf, only_as, OnlyIf, ListChecked, list_of, ListIn}
+use Rattle.ast_mapping.specs.Steps.{node_of, With, Looked, refusal_told, given_as, Gives, found_as, FoundIf, only_as, OnlyIf, ListChecked, list_of, ListIn}
 use Rattle.ast_mapping.specs.Steps.{request_as, RequestIn, certified_as, Maps}
 use Rattle.ast_mapping.proofs.View.{few, tabled, later, Begins, all, less, begins-none, Child, next-child, last-child}
 
@@ -77,11 +77,6 @@ pub small : (e : TreeNode) → e.number.0 < max_nodes
 small e = few e.table.now e.text.now e.number.0 e.held
 
 module _ (e : TreeNode) where
-  -- a key that is missing
-  pub missing : {name : ℕ} {A B : Type 0} {f : A → B} {P : A → Type 0} {d : Told} → refusal_told d ≡ fields_used 10 name e.number.0
-      → Gives f P (Err d) (missing_property name e.number.0)
-  missing t = refuses t refl (small e)
-
   -- which of two keys is there
   pub picked : {a b : ℕ} {f g : Option TreeNode} (both neither : ℕ) {r : Result (Which TreeNode) Told} → Looked e a f → Looked e b g
       → given_as (only_as (λ a. a)) r ≡ exactly_one both neither e.number.0 (found_as (λ a. a) f) (found_as (λ a. a) g)

@@ -6,7 +6,7 @@ use Rattle.cel_text.specs.Reading.{max_nodes}
 use Rattle.cel_text.specs.Table.{Words, kind_number}
 use Rattle.cel_policy.specs.Names.{default_certification, certified_request_headers, certified_query_parameters, certified_response_headers, response_header_exclusions}
 use Rattle.cel_policy.specs.Policy.{Span, Policy, response_only, full, inclusions, exclusions}
-use Rattle.cel_policy.specs.Mapping.{Node, Refusal, Mapped, good, bad, Request, Only, first, second, Typed, typed, lookup, string_array, list_at, skipped}
+use Rattle.cel_policy.specs.Mapping.{Node, Refusal, Mapped, good, bad, Request, Only, first, second, Typed, typed, lookup, present, string_array, list_at, skipped}
 use Rattle.parser.specs.declared.Node.{Node as Numbered}
 use Rattle.ast_mapping.specs.View.{node_at, children, typed_at, strings_of, Tabled}
 use Rattle.ast_mapping.specs.declared.tree.TreeNode.{TreeNode}
@@ -109,6 +109,10 @@ only_as f (Second a) = second (f a)
 abbrev pub OnlyIf : {A : Type 0} → (A → Type 0) → Which A → Type 0
 OnlyIf P (First a) = P a
 OnlyIf P (Second a) = P a
+
+-- what stands at a key that has to be there, in the same table
+abbrev pub Present : TreeNode → (name : ℕ) → Result TreeNode Told → Type 0
+Present e name r = Gives node_of (With e.table.now) r (present name e.number.0 (lookup name (children (node_of e))))
 
 -- ---- lists of strings, by the nodes of their arrays, whose rows are in the table
 

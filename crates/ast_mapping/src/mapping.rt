@@ -5,7 +5,7 @@ ghost use Rattle.cel_text.specs.Table.{kind_number};
 ghost use Rattle.cel_policy.specs.Names.{ValidationArgs, Certification, RequestCertification};
 ghost use Rattle.cel_policy.specs.Mapping.{and_then, typed, lookup, exactly_one, request_lists, request_part, list_of, response_part, certification_parts, validation_args, mapping};
 ghost use Rattle.ast_mapping.specs.View.{node_at, children, Held};
-ghost use Rattle.ast_mapping.specs.Steps.{expected_kind, refusal_told, kind_refused, fields_used, node_of, typed_of, found_as, given_as, only_as, Checked, ListChecked, Listing};
+ghost use Rattle.ast_mapping.specs.Steps.{expected_kind, refusal_told, kind_refused, fields_used, node_of, typed_of, found_as, given_as, only_as, Checked, ListChecked, Present, Listing};
 ghost use Rattle.ast_mapping.specs.Steps.{RequestFound, Requested, HeadersFound, Responded, certified_as, Maps};
 
 use crate::name;
@@ -164,14 +164,22 @@ fn exactly_one<T: Copy>(
     }
 }
 
+// What stands at this key of the object, where a key has to be.
+fn property<'a>(object: &TreeNode<'a>, name: u32) -> Result<TreeNode<'a>, Refusal>
+    ensures { Present object.now name result }
+{
+    match object.lookup(name) {
+        Some(node) => Ok(node),
+        None => Err(refused(MISSING_OBJECT_PROPERTY, name, object.number)),
+    }
+}
+
 // The list of strings at this key of the object.
 fn string_list(object: &TreeNode, name: u32) -> Result<Node, Refusal>
     requires { expected_kind name ≡ array }
     ensures { Listing object.now name result }
 {
-    let Some(list) = object.lookup(name) else {
-        return Err(refused(MISSING_OBJECT_PROPERTY, name, object.number));
-    };
+    let list = property(object, name)?;
     validate_string_array(&list, name)?;
     Ok(list.number)
 }
@@ -222,13 +230,7 @@ fn response_headers(object: &TreeNode, name: u32) -> Result<Option<Node>, Refusa
 fn validate_response_certification(certification: &TreeNode) -> Result<Only<Node>, Refusal>
     ensures { Responded certification.now result (response_part (typed_of certification.now)) }
 {
-    let Some(response) = certification.lookup(RESPONSE_CERTIFICATION) else {
-        return Err(refused(
-            MISSING_OBJECT_PROPERTY,
-            RESPONSE_CERTIFICATION,
-            certification.number,
-        ));
-    };
+    let response = property(certification, RESPONSE_CERTIFICATION)?;
     validate_node(&response, RESPONSE_CERTIFICATION_OBJECT)?;
     let included = response_headers(&response, CERTIFIED_RESPONSE_HEADERS)?;
     let excluded = response_headers(&response, RESPONSE_HEADER_EXCLUSIONS)?;

@@ -3,7 +3,10 @@
 // is a policy's numbers.
 #![tactic(auto)]
 
+ghost use Rattle.std.specs.Prelude.{◌≡◌, ◌+◌};
+
 // A policy as numbers: form, list kind, and how many strings each list has. The default is no policy.
+// Numbers and no enums: a caller may give any, and refusal 20 judges them.
 #[derive(Clone, Copy, Default)]
 pub struct Policy {
     pub form: u32,
@@ -11,6 +14,24 @@ pub struct Policy {
     pub request: u32,
     pub query: u32,
     pub response: u32,
+}
+
+impl Policy {
+    ghost use Rattle.cel_policy.specs.Policy.{string_count, numbers};
+
+    // How many strings stand before the response's.
+    pub fn before_response(self) -> usize
+        ensures { result ≡ self.request + self.query }
+    {
+        self.request as usize + self.query as usize
+    }
+
+    // How many strings there are.
+    pub fn strings(self) -> usize
+        ensures { result ≡ string_count (numbers self) }
+    {
+        self.before_response() + self.response as usize
+    }
 }
 
 // The forms, and the kinds of the response list; 0 is none.

@@ -18,16 +18,16 @@ const MAX_RESPONSE_ONLY: usize = 249;
 
 const MAX_FULL: usize = 247;
 
-// Whether form, list kind and counts go together. Form and kind are numbers, and no enums: a caller may give any number.
+// Whether form, list kind and counts go together.
 #[tactic(auto, unfolding(cel_policy::specs::Printed::shaped))]
 fn shape(policy: Policy) -> bool
     ensures { result ≡ shaped (numbers policy) }
 {
-    let count = span::count(policy);
+    let count = policy.strings();
     let listed = policy.kind == INCLUSIONS || policy.kind == EXCLUSIONS;
     match policy.form {
         SKIP => policy.kind == 0 && count == 0,
-        RESPONSE_ONLY => listed && span::response(policy) == 0 && count <= MAX_RESPONSE_ONLY,
+        RESPONSE_ONLY => listed && policy.before_response() == 0 && count <= MAX_RESPONSE_ONLY,
         FULL => listed && count <= MAX_FULL,
         _ => false,
     }
@@ -75,7 +75,7 @@ fn plain(given: &Checked, i: usize) -> bool
 fn all_plain(given: &Checked) -> Result<(), Refusal>
     ensures { judged_as result ≡ unless_faulty 22 (first_fault (bytes_fit string_set given.now.spans.now given.now.text.now) (count_of given.now) 0) clean }
 {
-    for i in 0..span::count(given.policy) {
+    for i in 0..given.policy.strings() {
         if !plain(given, i) {
             return Err(Refusal::NoStringByte(i as u32));
         }
@@ -84,6 +84,7 @@ fn all_plain(given: &Checked) -> Result<(), Refusal>
 }
 
 // 20 and 21: all that is judged where any byte may stand in a string.
+// Three parameters, as `print_policy` takes them: `Checked` has them once they are judged.
 #[tactic(auto, using(crate::proofs::Judgings::judging))]
 pub(crate) fn over_any<'a>(
     policy: Policy,
@@ -96,7 +97,7 @@ pub(crate) fn over_any<'a>(
     if !shape(policy) {
         return Err(Refusal::WrongShape);
     }
-    all_inside(text, spans, span::count(policy))?;
+    all_inside(text, spans, policy.strings())?;
     Ok(Checked {
         policy,
         text,

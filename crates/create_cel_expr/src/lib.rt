@@ -21,7 +21,7 @@ use checked::Checked;
 use parser::MAX_TEXT;
 pub use refusal::Refusal;
 
-// The answer of printing: SPEC.md's five numbers.
+// The answer of printing: SPEC.md's five numbers, which callers print and compare; `Refusal` is the same as an enum.
 #[derive(Clone, Copy)]
 pub struct Printed {
     pub refusal: u32,
@@ -79,6 +79,7 @@ pub fn print_policy(policy: Policy, text: &[u8], spans: &[u32], out: &mut [u8]) 
 }
 
 // The same where any byte may stand in a string, as for strings that were read: 22 falls away.
+// Two functions: both are promised (docs/PROMISES.md), and they differ in what is judged.
 #[tactic(auto, using(crate::proofs::Judgings::printing_found), unfolding(cel_policy::specs::Answers::print_answer, cel_policy::specs::Answers::print_output))]
 pub fn print_any(policy: Policy, text: &[u8], spans: &[u32], out: &mut [u8]) -> Printed
     ensures answer { print_told result ≡ print_answer any_byte (numbers policy) spans.now text.now (length out.old) }

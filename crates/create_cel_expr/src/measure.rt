@@ -4,10 +4,17 @@ ghost use Rattle.cel_policy.specs.Printed.{total, list_length, printed_length};
 ghost use Rattle.create_cel_expr.specs.Given.{count_of, strings_of, policy_of, word_size};
 
 use crate::checked::Checked;
-use crate::span;
 use cel_policy::{RESPONSE_ONLY, SKIP};
 
+// The lengths of the three texts without their lists.
+const SKIP_LENGTH: usize = 63;
+
+const RESPONSE_ONLY_LENGTH: usize = 204;
+
+const FULL_LENGTH: usize = 274;
+
 // The strings from string `begin` on, `count` of them.
+// Two numbers and no range, which may end before it starts; and no struct: making one for each list takes as many clauses as the three that it saves.
 fn strings(given: &Checked, begin: usize, count: usize) -> usize
     requires { begin + count ≤ count_of given.now }
     ensures long { result ≡ total (strings_of given.now count begin) }
@@ -41,14 +48,10 @@ pub(crate) fn printed_length(given: &Checked) -> usize
     let policy = given.policy;
     let request = policy.request as usize;
     let query = policy.query as usize;
-    let response = policy.response as usize;
+    let response = list(given, policy.before_response(), policy.response as usize);
     match policy.form {
-        SKIP => 63,
-        RESPONSE_ONLY => 204 + list(given, span::response(policy), response),
-        _ => {
-            274 + list(given, 0, request)
-                + list(given, request, query)
-                + list(given, request + query, response)
-        }
+        SKIP => SKIP_LENGTH,
+        RESPONSE_ONLY => RESPONSE_ONLY_LENGTH + response,
+        _ => FULL_LENGTH + list(given, 0, request) + list(given, request, query) + response,
     }
 }

@@ -1,4 +1,4 @@
-// Why a policy is not printed.
+// Why a policy is not printed. Judging alone gives the first three.
 ghost use Rattle.std.specs.Prelude.{◌≡◌};
 
 use crate::{NO_STRING_BYTE, OUTPUT_TOO_SHORT, PRINTED_TOO_LONG, SPAN_OUTSIDE, WRONG_SHAPE};
@@ -15,7 +15,7 @@ pub enum Refusal {
 impl Refusal {
     ghost use Rattle.create_cel_expr.specs.Judged.{number_of, place_of};
 
-    // Its number.
+    // Its number. A method and no `From`: `u32::from(refusal)` would not say which of the two numbers is meant.
     pub fn number(self) -> u32
         ensures { result ≡ number_of self }
     {

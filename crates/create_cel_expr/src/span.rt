@@ -1,10 +1,8 @@
 // The span table: string i has its words 2 i and 2 i + 1; the request's strings come first, then the query's, then the response's.
-ghost use Rattle.std.specs.Prelude.{◌≡◌, suc, ◌+◌, ◌*◌, ◌<◌, length};
-ghost use Rattle.cel_policy.specs.Policy.{string_count, numbers};
+ghost use Rattle.std.specs.Prelude.{◌≡◌, suc, ◌*◌, ◌<◌, length};
 ghost use Rattle.cel_policy.specs.Spans.{span_at};
 ghost use Rattle.create_cel_expr.specs.Given.{word_size};
 
-use cel_policy::Policy;
 use std::ops::Range;
 
 // Where string i begins, and the place after its end.
@@ -15,18 +13,4 @@ pub(crate) fn of(spans: &[u32], i: usize) -> Range<usize>
     ensures word { result.end < word_size }
 {
     spans[2 * i] as usize..spans[2 * i + 1] as usize
-}
-
-// The response's first string.
-pub(crate) fn response(policy: Policy) -> usize
-    ensures { result ≡ policy.request + policy.query }
-{
-    policy.request as usize + policy.query as usize
-}
-
-// How many strings there are.
-pub(crate) fn count(policy: Policy) -> usize
-    ensures { result ≡ string_count (numbers policy) }
-{
-    response(policy) + policy.response as usize
 }

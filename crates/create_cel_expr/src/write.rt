@@ -5,7 +5,6 @@ ghost use Rattle.pieces.specs.Pieces.{Wrote, Fits};
 ghost use Rattle.create_cel_expr.specs.Given.{count_of, string_of, strings_of, policy_of};
 
 use crate::checked::Checked;
-use crate::span;
 use cel_policy::{EXCLUSIONS, RESPONSE_ONLY, SKIP};
 
 // A piece for which there is room. `pieces::put` has no such condition and would keep every literal in memory, to write its first bytes.
@@ -81,7 +80,7 @@ fn create_response_cel_expr(out: &mut [u8], at: usize, given: &Checked) -> usize
     requires { Fits out.old at (response_text (policy_of given.now)) }
     ensures { Wrote out.old out.new at result (response_text (policy_of given.now)) }
 {
-    let begin = span::response(given.policy);
+    let begin = given.policy.before_response();
     let opened = put(out, at, b"response_certification:ResponseCertification{");
     let keyed = list_key(out, opened, given.policy.kind);
     let listed = put(out, keyed, b":ResponseHeaderList{headers:[");

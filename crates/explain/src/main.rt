@@ -16,11 +16,15 @@ use std::rt::Files;
 use std::{fs, io};
 
 // The numbers of the system's words for an argument that is too long, for one that is not there, and for a name that is no text.
+// Numbers, since only an error made from its number has the system's words.
 const TOO_LONG: i32 = 36;
 
 const NOT_THERE: i32 = 22;
 
 const NO_TEXT: i32 = 84;
+
+// Room for any report, and for a line with any argument.
+const PAGE: usize = 65536;
 
 const HELP: &[u8] = b"Usage: explain [FILE]\n\
     \n\
@@ -43,7 +47,7 @@ fn explain_from<R: Read, O: Print, E: Print>(
     console: &Console<'_, O, E>,
 ) -> io::Result<()> {
     let mut room = [0u8; input::ROOM];
-    let mut out = [0u8; 65536];
+    let mut out = [0u8; PAGE];
     let n = input::read_text(reader, &mut room)?;
     let end = report::report(&room[..n], &mut out);
     console.say(&out[..end]);
@@ -75,7 +79,7 @@ fn explain_named<O: Print, E: Print>(
 // The same, or says why the file cannot be read.
 fn explain_file<O: Print, E: Print>(files: &impl Files, console: &Console<'_, O, E>, path: &[u8]) {
     if let Err(error) = explain_named(files, console, path) {
-        let mut out = [0u8; 65536];
+        let mut out = [0u8; PAGE];
         let n = unreadable(path, &mut out);
         fail(console.errors, &out[..n], &error);
     }
@@ -94,6 +98,7 @@ fn argument(rt: &impl Env, room: &mut [u8]) -> io::Result<usize>
 }
 
 // Explains the file that the argument names; `--help` gets the help.
+// Not `Console::answer_argument`: another argument is a file's name here, and a help that cannot be written is passed over.
 fn explain_argument<O: Print, E: Print>(rt: &(impl Env + Files), console: &Console<'_, O, E>) {
     let mut room = [0u8; 4096];
     match argument(rt, &mut room) {

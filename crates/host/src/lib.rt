@@ -6,8 +6,9 @@ ghost use Rattle.std.specs.Prelude.{◌≡◌, length};
 ghost use Rattle.cel_policy.specs.Answers.{canonical_answer, canonical_output};
 
 use ast_mapping::SPAN_WORDS;
-use parser::NODE_WORDS;
+use parser::{ACCEPTED, NODE_WORDS};
 
+// One number and no Result: it is what C gets, and SPEC.md's.
 pub const REFUSED: u32 = 65536;
 
 // Writes the canonical text to the front of `out`, or refuses and leaves `out` as it is.
@@ -20,11 +21,11 @@ pub fn canonicalise(text: &[u8], out: &mut [u8]) -> u32
     // The entries answer numbers, as this one does: a Result would be made only to be taken apart again.
     let read = ast_mapping::read_over(text, &mut nodes, &mut spans);
     let answer = read.answer;
-    if answer.refusal != 0 {
+    if answer.refusal != ACCEPTED {
         return REFUSED + answer.refusal;
     }
     let printed = create_cel_expr::print_any(read.policy, text, &spans, out);
-    if printed.refusal != 0 {
+    if printed.refusal != ACCEPTED {
         return REFUSED + printed.refusal;
     }
     printed.length

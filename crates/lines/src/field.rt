@@ -73,7 +73,7 @@ fn digit(b: u8) -> Option<usize>
     }
 }
 
-// The number of the field after the one that ends at `at`, where there is one.
+// The number of the field after the one that ends at `at`, where there is one. No program here asks for it: docs/PROMISES.md promises it.
 pub fn number_after(line: &[u8], at: usize, most: u32) -> Option<Field>
     ensures value { result ≡ number_after most line.now at }
     ensures within { Within (length line.now) most result }

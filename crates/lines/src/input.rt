@@ -15,7 +15,7 @@ pub struct Line {
     pub cut: bool,
 }
 
-// Before the first line: no line, and nothing held.
+// Before the first line: no line, and nothing held. `None` under the name that docs/PROMISES.md promises.
 pub fn none() -> Option<Line>
     ensures { result ≡ no_line }
 {
@@ -23,6 +23,8 @@ pub fn none() -> Option<Line>
 }
 
 // One read after the bytes held; how many are held then, the same number at the end of the input, which a read that fails counts as.
+// Reader and buffer stay two parameters: `next` is promised so, and a struct that holds a `&mut` needs a clause on it in every contract.
+// No twin of the read in `replay`, where a read that fails is told and is no end.
 fn read_more<R: Read>(reader: &mut R, input: &mut [u8], held: usize) -> usize
     requires { held ≤ length input.old }
     ensures { (held ≤ result) × (result ≤ length input.new) }

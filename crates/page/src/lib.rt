@@ -83,7 +83,7 @@ fn say_byte(out: &mut [u8], at: usize, b: u8, n: usize) -> usize
     }
 }
 
-// A page's own words: a line end ends the line, and `#` stands for the number.
+// A page's own words: a line end ends the line, and `#` stands for the number, which is 0 where the words have none.
 #[tactic(auto, unfolding(crate::specs::Page::said))]
 pub fn say(out: &mut [u8], at: usize, words: &[u8], n: usize) -> usize
     ensures { Wrote out.old out.new at result (said words.now n) }

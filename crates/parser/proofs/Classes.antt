@@ -20,13 +20,6 @@ pub past-blank : (b : ℕ) → 32 < b → blank b ≡ false
 unfolding blank
 past-blank b h = rw (ne_eqb b 32 (λ e. omega (arith, e)), ne_eqb b 9 (λ e. omega (arith, e)), ne_eqb b 10 (λ e. omega (arith, e)), ne_eqb b 13 (λ e. omega (arith, e)))
 
--- a test, and where it fails a second one
-pub or-first : (a b : Bool) → a ≡ true → true ≡ a || b
-or-first a b h = rw h
-
-pub or-second : (a b : Bool) → a ≡ false → b ≡ a || b
-or-second a b h = rw h
-
 -- letters and digits are what both classes share
 module _ (b : ℕ) where
   shared : (d u l : Bool) → d || u || l ≡ (u || l) || d

@@ -68,7 +68,7 @@ pub(crate) struct Refused {
     pub place: Place,
 }
 
-// The answer of reading a tree: its six numbers.
+// The answer of reading a tree: its six numbers, as SPEC.md has them.
 #[derive(Clone, Copy)]
 pub struct Answer {
     pub refusal: u32,
@@ -91,7 +91,7 @@ pub const NODE_WORDS: usize = ROW_WORDS * MAX_NODES;
 
 pub const ROW_WORDS: usize = 8;
 
-// Kinds, as a row's first word names them.
+// Kinds, as a row's first word names them: numbers, since any table may be lent.
 pub const STRING: u32 = 1;
 
 pub const ARRAY: u32 = 2;

@@ -45,8 +45,8 @@ pub fn read_row(table: &[u32], node: Node) -> Row
     }
 }
 
-// The words that are known where a node opens: kind, name or content, key, parent. Word by word: with `copy_from_slice` here
-// and below, deep texts take a quarter more time.
+// The words that are known where a node opens: kind, name or content, key, parent. Word by word: with `copy_from_slice`
+// they would be put together first, and deep texts take a sixth more time.
 pub(crate) fn open_row(table: &mut [u32], kind: u32, from: Place, to: Place, slot: Slot)
     requires node_in_bounds { row_words * suc slot.node.0 ≤ length table.old }
     requires from_bound { (from.0 < 2 ^ 32) × (to.0 < 2 ^ 32) × (slot.key.from.0 < 2 ^ 32) × (slot.key.to.0 < 2 ^ 32) }

@@ -1,5 +1,6 @@
 // Pieces of output: each is written from a place of a lent buffer on, and the place after it is answered. What the programs print is made of these.
 // The buffer and the place stay two parameters: a struct that holds the `&mut [u8]` needs a clause on its ghost name in every contract, so it is no plainer.
+// Loops that put piece after piece stay in their functions: one over a closure would need clauses on what the closure writes, at each use.
 #![tactic(auto)]
 
 ghost use Rattle.std.specs.Prelude.{◌+◌, ◌≤◌, ◌<◌, length};

@@ -43,7 +43,8 @@ pub fn fail(errors: &impl Print, what: &[u8], error: &io::Error) {
     let _ = errors.write_all(b"\n");
 }
 
-// Where a program writes, and what it says of itself: what failed where it cannot write, its help, and what it takes.
+// Where a program writes, and what it says of itself: what failed where it cannot write, its help, and what it takes. What it writes is no value of the
+// program, so its methods have no clauses.
 #[derive(Clone, Copy)]
 pub struct Console<'a, O: Print, E: Print> {
     pub output: &'a O,
@@ -54,7 +55,7 @@ pub struct Console<'a, O: Print, E: Print> {
 }
 
 impl<O: Print, E: Print> Console<'_, O, E> {
-    // Writes to standard output; where that fails, says so and answers false.
+    // Writes to standard output; where that fails, says so and answers false. A bool: the error is told here, and the caller only stops.
     pub fn say(&self, text: &[u8]) -> bool {
         match self.output.write_all(text) {
             Ok(()) => true,

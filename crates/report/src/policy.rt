@@ -121,7 +121,7 @@ impl Accepted<'_> {
         if self.policy.form == cel_policy::SKIP {
             return at;
         }
-        let first = self.policy.request as usize + self.policy.query as usize;
+        let first = self.policy.before_response();
         let count = self.policy.response as usize;
         let list = List::response(self.policy.kind);
         let end = say(out, at, b"\n", 0);

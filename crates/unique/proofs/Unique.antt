@@ -8,10 +8,12 @@ use Rattle.cel_text.specs.Byte.{string_byte}
 use Rattle.cel_text.specs.Table.{row_at}
 use Rattle.cel_text.specs.Answer.{refused_at, tree_answer, tree_table, tree_over}
 use Rattle.cel_policy.specs.Names.{spelling}
-use Rattle.cel_policy.specs.Policy.{numbers}
+use Rattle.cel_policy.specs.Policy.{string_count, numbers}
 use Rattle.cel_policy.specs.Answers.{policy_answer, policy_nodes, policy_spans, policy_nodes_over, policy_spans_over, any_byte, Judgement, clean, faulty, judgement, print_answer, print_output, canonical_answer}
 use Rattle.cel_policy.specs.Answers.{canonical_output}
 use Rattle.cel_policy.specs.declared.Policy.{Policy}
+use Rattle.cel_policy.proofs.Policy.before_response
+use Rattle.cel_policy.proofs.Policy.strings
 use Rattle.pieces.specs.Pieces.{Wrote}
 use Rattle.parser.specs.Found.{told}
 use Rattle.parser.specs.Rows.{row_told}
@@ -256,6 +258,28 @@ judged-says r s e = sym (found-back r) ∙ ap found-as e ∙ found-back s
 
 print-says : (r s : Printed) → print_told r ≡ print_told s → r ≡ s
 print-says r s e = λ i. record { refusal = (e i).refusal; name = (e i).name; kind = (e i).kind; place = (e i).place; length = (e i).length }
+
+-- `cel_policy::Policy::before_response`
+pub strings-before-response :
+    Kept before_response.Kinds.ps before_response.Kinds.r before_response.Reads.Asked before_response.Reads.Post (λ κs a r v.
+    r ≡ a.0.request + a.0.query)
+strings-before-response =
+    record {
+      one = λ κs a r s v w e f. (meet e f, refl);
+      asks = λ κs a. tt;
+      says = λ κs a r v e. e;
+    }
+
+-- `cel_policy::Policy::strings`
+pub all-strings :
+    Kept strings.Kinds.ps strings.Kinds.r strings.Reads.Asked strings.Reads.Post (λ κs a r v.
+    r ≡ string_count (numbers a.0))
+all-strings =
+    record {
+      one = λ κs a r s v w e f. (meet e f, refl);
+      asks = λ κs a. tt;
+      says = λ κs a r v e. e;
+    }
 
 -- `create_cel_expr::Refusal::number`
 pub refusal-number :

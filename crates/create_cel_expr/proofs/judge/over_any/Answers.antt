@@ -6,4 +6,4 @@ use Rattle.create_cel_expr.proofs.judge.over_any.Goals as goal
 pub invariant_of-result-clause-inside : goal.invariant_of-result-clause-inside
 invariant_of-result-clause-inside c =
     let a = c.args in
-    judged-inside (numbers a.policy) a.spans.now a.text.now c.shape.ensures c.if-not-shape.false c.count.ensures c.in_ok-all_inside.ensures
+    judged-inside (numbers a.policy) a.spans.now a.text.now c.shape.ensures c.if-not-shape.false c.strings.ensures c.in_ok-all_inside.ensures

@@ -7,5 +7,5 @@ use Rattle.create_cel_expr.proofs.write.create_response_cel_expr.Goals as goal
 pub returns : goal.returns
 unfolding response_text
 returns c =
-    rw (sym c.response-begin.ensures)
+    rw (sym c.before_response-begin.ensures)
     (wrote_then c.put-opened.ensures (wrote_then c.list_key-keyed.ensures (wrote_then c.put-listed.ensures (wrote_then c.list-headers.ensures c.put.ensures))))

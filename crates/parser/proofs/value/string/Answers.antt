@@ -11,9 +11,8 @@ returns-then-peek-ne34 c =
     let a = c.args in
     let r = c.run_of-to in
     let q = c.run_of-end in
-    λ o left. rw c.at.ensures
-    (string-refused a.text.now o a.at.0 r.result.0 q.result.0 a.slot.node.0 left r.ensures q.ensures c.requires.at_in_bounds.0
-    (λ e. c.if-peek-ne34.true (c.peek.ensures ∙ e)))
+    λ o left. rw c.at.ensures (string-refused a.text.now o a.at.0 r.result.0 q.result.0 a.slot.node.0 left r.ensures q.ensures
+    c.requires.at_in_bounds.0 (λ e. c.if-peek-ne34.true (c.peek.ensures ∙ e)))
 
 pub open_row-requires : goal.open_row-requires
 open_row-requires c =

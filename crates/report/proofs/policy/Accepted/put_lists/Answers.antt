@@ -16,4 +16,5 @@ returns c =
     let f = c.args.self.policy.form in
     let h = c.if-self-eq-SKIP.false in
     let l = c.response-list.ensures in
-    rw (ne_eqb f skip h, ← l) (wrote_then c.say-end.ensures (wrote_then c.put_request-end.ensures c.put_list.ensures))
+    let b = c.before_response-first.ensures in
+    rw (ne_eqb f skip h, ← l, ← b) (wrote_then c.say-end.ensures (wrote_then c.put_request-end.ensures c.put_list.ensures))
