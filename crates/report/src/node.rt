@@ -26,6 +26,7 @@ fn arrays_before(table: &[u32], node: Node) -> usize
 
 // The place of the bracket that so many stand before, or the text's end. Up to the end of the first value a `[` opens an array wherever
 // it stands, and arrays are numbered in the order of their openers: so this is where the array opens that so many arrays stand before.
+// Not by `filter` and `nth`, which is no plainer: the place must then be taken out of a pair, and the end put in where there is none.
 fn bracket(text: &[u8], before: usize) -> usize
     ensures { result ≡ bracket_at text.now before }
 {
