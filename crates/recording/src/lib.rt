@@ -139,17 +139,17 @@ impl Turn {
         ensures { Stepped self rest.now ended out.old out.new result }
     {
         match window::next_event(rest, self.state.skip, ended) {
-            Event::Body(from, to) => self.answered(to, tables.reply(&rest[from..to]), out),
-            Event::Skipping(to, left) => Turn {
+            Event::Body { from, to } => self.answered(to, tables.reply(&rest[from..to]), out),
+            Event::Skipping { used, left } => Turn {
                 state: State {
                     skip: left,
                     ..self.state
                 },
-                used: self.used + to,
+                used: self.used + used,
                 why: Why::Full,
                 ..self
             },
-            Event::Skipped(to) => self.answered(to, Reply::too_long(), out),
+            Event::Skipped { used } => self.answered(used, Reply::too_long(), out),
             Event::Wanting => Turn {
                 why: Why::Wanting,
                 ..self

@@ -7,13 +7,13 @@ use crate::Ending;
 use groups::{Fault, Number};
 use parser::MAX_TEXT;
 
-// A whole record: its body lies from a place up to another. A long record, or more of one: where the rest begins, and how many bytes of it are to be
-// skipped. The end of a long record. A wish for more bytes. The end of the recording.
+// A whole record: its body lies from a place up to another. A long record, or more of one: how many of the bytes held are used, and how many of the
+// rest are to be skipped. The end of a long record, and how many bytes are used. A wish for more bytes. The end of the recording.
 #[derive(Clone, Copy, Debug, PartialEq, Eq)]
 pub(crate) enum Event {
-    Body(usize, usize),
-    Skipping(usize, usize),
-    Skipped(usize),
+    Body { from: usize, to: usize },
+    Skipping { used: usize, left: usize },
+    Skipped { used: usize },
     Wanting,
     Last(Ending),
 }
@@ -29,8 +29,7 @@ pub(crate) fn next_event(held: &[u8], skip: usize, ended: bool) -> Event
     match groups::read_number(held) {
         Ok(number) => body_event(number, held.len(), ended),
         Err(Fault::Cut) => cut_event(held.len(), ended),
-        Err(Fault::Padded) => Event::Last(Ending::BrokenLength),
-        Err(Fault::TooMany) => Event::Last(Ending::BrokenLength),
+        Err(Fault::Padded | Fault::TooMany) => Event::Last(Ending::BrokenLength),
     }
 }
 
@@ -41,9 +40,15 @@ fn body_event(length: Number, held: usize, ended: bool) -> Event
 {
     let Number { value, size } = length;
     if MAX_TEXT < value {
-        Event::Skipping(size, value)
+        Event::Skipping {
+            used: size,
+            left: value,
+        }
     } else if value <= held - size {
-        Event::Body(size, size + value)
+        Event::Body {
+            from: size,
+            to: size + value,
+        }
     } else if ended {
         Event::Last(Ending::BrokenBody)
     } else {
@@ -69,12 +74,15 @@ fn skip_event(skip: usize, held: usize, ended: bool) -> Event
     ensures { result ≡ skip_event skip held ended }
 {
     if skip <= held {
-        Event::Skipped(skip)
+        Event::Skipped { used: skip }
     } else if ended {
         Event::Last(Ending::BrokenBody)
     } else if held == 0 {
         Event::Wanting
     } else {
-        Event::Skipping(held, skip - held)
+        Event::Skipping {
+            used: held,
+            left: skip - held,
+        }
     }
 }
