@@ -14,7 +14,7 @@ const SPANS_LENT: usize = SPAN_WORDS + 5;
 
 // The answer to a request's fields: nine fields, and the line end.
 pub(crate) fn answer(line: &[u8], out: &mut Reply) -> Option<()> {
-    let mut given = room::bytes();
+    let mut given = room::LENT_BYTES;
     let mut fields = line.split(|b| *b == b'\t');
     let text = fields::text(fields.next()?, &mut given)?;
     let nodes = fields::number_or(fields.next(), NODES_LENT, MOST_WORDS)?;
@@ -23,16 +23,15 @@ pub(crate) fn answer(line: &[u8], out: &mut Reply) -> Option<()> {
     if fields.next().is_some() {
         return None;
     }
-    entry::put_tree(text, &mut room::words()[..nodes], out);
+    let mut table = room::LENT_WORDS;
+    entry::put_tree(text, &mut table[..nodes], out);
     out.put(b"\t");
-    entry::put_policy(
-        text,
-        &mut room::words()[..nodes],
-        &mut room::words()[..spans],
-        out,
-    );
+    let mut table = room::LENT_WORDS;
+    let mut strings = room::LENT_WORDS;
+    entry::put_policy(text, &mut table[..nodes], &mut strings[..spans], out);
     out.put(b"\t");
-    entry::put_canonical(text, &mut room::bytes()[..room], out);
+    let mut output = room::LENT_BYTES;
+    entry::put_canonical(text, &mut output[..room], out);
     out.put(b"\n");
     Some(())
 }

@@ -6,9 +6,9 @@ use cel_policy::Policy;
 
 // The answer to a request's fields: the numbers and the whole output, and the line end.
 pub(crate) fn answer(line: &[u8], out: &mut Reply) -> Option<()> {
-    let mut given = room::bytes();
-    let mut spans = room::words();
-    let mut lent = room::bytes();
+    let mut given = room::LENT_BYTES;
+    let mut spans = room::LENT_WORDS;
+    let mut lent = room::LENT_BYTES;
     let mut fields = line.split(|b| *b == b'\t');
     let text = fields::text(fields.next()?, &mut given)?;
     let policy = Policy {

@@ -4,7 +4,7 @@ use crate::{fields, room};
 
 // The answer to a text in hex.
 pub(crate) fn answer(field: &[u8], out: &mut Reply) -> Option<()> {
-    let mut room = room::bytes();
+    let mut room = room::LENT_BYTES;
     let text = fields::text(field, &mut room)?;
     out.put_report(text);
     out.put(b"\n");

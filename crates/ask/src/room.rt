@@ -19,11 +19,7 @@ pub(crate) const FILL_BYTE: u8 = 0xA5;
 pub(crate) const FILL_WORD: u32 = 0xA5A5_A5A5;
 
 // Room for a text or an output.
-pub(crate) fn bytes() -> [u8; BYTES] {
-    [FILL_BYTE; BYTES]
-}
+pub(crate) const LENT_BYTES: [u8; BYTES] = [FILL_BYTE; BYTES];
 
 // Room for a table.
-pub(crate) fn words() -> [u32; WORDS] {
-    [FILL_WORD; WORDS]
-}
+pub(crate) const LENT_WORDS: [u32; WORDS] = [FILL_WORD; WORDS];

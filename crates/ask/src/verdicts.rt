@@ -126,7 +126,7 @@ fn put_verdict(text: &[u8], out: &mut Reply) {
 
 // The answer to a text in hex.
 pub(crate) fn answer(field: &[u8], out: &mut Reply) -> Option<()> {
-    let mut room = room::bytes();
+    let mut room = room::LENT_BYTES;
     let text = fields::text(field, &mut room)?;
     put_verdict(text, out);
     out.put(b"\n");
