@@ -8,7 +8,7 @@ use lib.Seq.{slice}
 use borrow.Author.Tests.{eqb-false}
 use Rattle.std.specs.Prelude.{Ok, Err}
 use Rattle.cel_text.specs.Byte.{Text}
-use Rattle.cel_text.specs.Tree.{array, object, function}
+use Rattle.cel_text.specs.Tree.{Kind, array, object, function}
 use Rattle.cel_text.specs.Table.{Words, kind_number, string_kind, word, row_at}
 use Rattle.cel_policy.specs.Policy.{Span}
 use Rattle.cel_policy.specs.Mapping.{Node, leaf, branch, Nodes, childless, ◌▹◌∶◌, Refusal, good, bad, unexpected_type, element, elements, string_array}
@@ -157,7 +157,7 @@ module _ (e : TreeNode) (name : ℕ) {row : Row} (k : RowRead e.table.now e.numb
         let end : next ≤ row.past.0 = m (omega (arith, k.past, list_tabled.begun)) in
         record {
           is = strings-are e.table.now e.text.now name e.number.0 e.held of-array next (omega arith) (λ i a b. are i (omega arith) b) (omega (arith, k.past));
-          small = tt;
+          inside = tt;
         }
 
     -- the next element
