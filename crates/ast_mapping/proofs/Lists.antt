@@ -8,7 +8,7 @@ use lib.Seq.{slice}
 use borrow.Author.Tests.{eqb-false}
 use Rattle.std.specs.Prelude.{Ok, Err}
 use Rattle.cel_text.specs.Byte.{Text}
-use Rattle.cel_text.specs.Tree.{Kind, array, object, function}
+use Rattle.cel_text.specs.Tree.{array, object, function}
 use Rattle.cel_text.specs.Table.{Words, kind_number, string_kind, word, row_at}
 use Rattle.cel_policy.specs.Policy.{Span}
 use Rattle.cel_policy.specs.Mapping.{Node, leaf, branch, Nodes, childless, ◌▹◌∶◌, Refusal, good, bad, unexpected_type, element, elements, string_array}
