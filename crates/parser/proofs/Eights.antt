@@ -96,7 +96,7 @@ eight-told x n l f e =
     rw zero-add at (spaces-told x 0 n ((n + (2 ^ 64 - spaces_as 8)) % 2 ^ 64) (omega arith) (f₀, (f₁, (f₂, (f₃, (f₄, (f₅, (f₆, (f₇, tt)))))))) e (omega arith))
 
 -- the i-th eight of a text
-pub chunk-at : (k i : ℕ) (x : Text) → i < k → get_or (first_chunks 8 k x) i [] ≡ take 8 (drop (8 * i) x)
+chunk-at : (k i : ℕ) (x : Text) → i < k → get_or (first_chunks 8 k x) i [] ≡ take 8 (drop (8 * i) x)
 chunk-at zero i x h = absurd (omega (arith, h))
 chunk-at (suc k) zero x h = refl
 chunk-at (suc k) (suc i) x h =

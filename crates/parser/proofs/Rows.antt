@@ -1,12 +1,8 @@
 -- Rows put into a table, one after the other or out of order, and how many words they take. Assumes nothing.
-use Rattle.std.proofs.Common.{◌≡◌, ℕ, suc, ◌+◌, ◌*◌, ◌/◌, ◌<◌, ◌≤◌, List, [], ◌∷◌, ◌++◌, length, take, drop, get_or, set, sym, refl, ap, ◌∙◌, add-zero, arith, get_or-drop}
-use Rattle.std.proofs.lemmas.List.{get_or-take}
-use Rattle.std.specs.Simd.{first_chunks}
+use Rattle.std.proofs.Common.{◌≡◌, ℕ, suc, ◌+◌, ◌*◌, ◌<◌, ◌≤◌, [], ◌∷◌, ◌++◌, length, set, sym, refl, ap, ◌∙◌, arith}
 use lib.Seq.{sets, set_comm}
 use Rattle.cel_text.specs.Tree.{Kind, Key, Tree, string, container, Trees, ◌▸◌∶◌, nodes_all, count}
-use Rattle.cel_text.specs.Table.{Words, row_at, words_at, rows_of, rows_all, kind_number, key_from, key_to, string_kind, row_words}
-use Rattle.cel_text.proofs.Laws.Table.{row_inside}
-use Rattle.parser.proofs.Eights.{chunk-at}
+use Rattle.cel_text.specs.Table.{Words, rows_of, rows_all, kind_number, key_from, key_to, string_kind, row_words}
 pub use Rattle.cel_text.proofs.Laws.Table.{length-rows_of, length-rows_all}
 pub use Rattle.pieces.specs.Laws.{sets-append}
 
@@ -57,24 +53,3 @@ put_six l i a b c d e f =
 
 pub put_two : (l : Words) (i a b : ℕ) → set (set l (i + 6) a) (i + 7) b ≡ sets l (i + 6) (a ∷ b ∷ [])
 put_two l i a b = let h : i + 7 ≡ suc (i + 6) = omega arith in rw h
-
--- the row of a node whose number is below the number of whole rows, as one of the table's eights
-pub row-eight : (w : Words) (n : ℕ) (rows : List Words) (r : Words) → rows ≡ first_chunks 8 (length w / 8) w → length rows ≡ length w / 8 → n < length rows → r ≡ get_or rows n []
-    → words_at r 0 ≡ row_at w n
-row-eight w n rows r e k h s =
-    let whole : row_words * suc n ≤ length w = omega arith in
-    let here : r ≡ take 8 (drop (8 * n) w) = s ∙ ap (λ (v : List Words). get_or v n []) e ∙ chunk-at (length w / 8) n w (omega arith) in
-    let at : (i : ℕ) → i < 8 → get_or r i 0 ≡ get_or w (8 * n + i) 0 = λ i l. ap (λ (v : Words). get_or v i 0) here ∙ get_or-take 8 (drop (8 * n) w) i 0 l ∙ get_or-drop (8 * n) w i 0 in
-    rw (
-      row_inside w n whole,
-      add-zero,
-      at 0 (omega arith),
-      at 1 (omega arith),
-      at 2 (omega arith),
-      at 3 (omega arith),
-      at 4 (omega arith),
-      at 5 (omega arith),
-      at 6 (omega arith),
-      at 7 (omega arith),
-      add-zero,
-    )

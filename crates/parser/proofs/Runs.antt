@@ -1,8 +1,5 @@
 -- Where a run of a class of bytes ends. Assumes nothing.
-use Rattle.std.proofs.Common.{◌≡◌, ℕ, zero, suc, ◌+◌, ◌-◌, ◌<◌, ◌≤◌, Bool, true, false, not, T, cond, Some, None, ltb, ltb-false, [], ◌∷◌, length, get_or, drop, sym, refl, ap, ◌∙◌, subst, add-zero, zero-add, arith, ltb→lt, nltb→le, length-drop, get_or-drop, drop-cons, ltb-true, lt-ltb}
-use Rattle.std.proofs.lemmas.List.Recursion.{is_position_or_len}
-use Rattle.std.specs.List.{position_or_len}
-use Rattle.std.specs.Option.{unwrap_or}
+use Rattle.std.proofs.Common.{◌≡◌, ℕ, zero, suc, ◌+◌, ◌-◌, ◌<◌, ◌≤◌, Bool, true, false, not, T, ltb, [], ◌∷◌, length, get_or, drop, sym, refl, ap, ◌∙◌, subst, add-zero, zero-add, arith, ltb→lt, nltb→le, length-drop, get_or-drop, drop-cons, ltb-true, lt-ltb}
 use borrow.Table.Steps.{cases}
 use Rattle.cel_text.specs.Byte.{Text, lead, blank, ascii}
 use Rattle.parser.specs.Run.{end_of, Spaces}
@@ -50,9 +47,6 @@ module _ (f : ℕ → Bool) where
     pub end-within : (p : ℕ) → p ≤ length x → end_of f x p ≤ length x
     end-within p h = omega (arith, lead-within (drop p x), length-drop p x)
 
-    pub end-beyond : (p : ℕ) → length x < p → p ≡ end_of f x p
-    end-beyond p h = omega (arith, lead-within (drop p x), length-drop p x)
-
 -- spaces after one another
 module _ (x : Text) where
   pub spaces-more : {p q r : ℕ} → Spaces x p q → Spaces x q r → Spaces x p r
@@ -96,13 +90,3 @@ all_ascii x most t h = zero-add (lead ascii x) ∙ leads x h
     leads (b ∷ bs) h =
         let rest : lead ascii bs ≡ length bs = leads bs (λ k l. h (suc k) (omega arith)) in
         rw (ascii-below b most (h 0 (omega arith)) t) (omega arith)
-
--- the first byte of another class, where one stands, ends what x begins with
-pub position-lead : (f : ℕ → Bool) (x : Text)
-    → unwrap_or (cond (ltb (position_or_len (λ b. not (f b)) x) (length x)) (Some (position_or_len (λ b. not (f b)) x)) None) (length x) ≡ lead f x
-position-lead f x =
-    let step : (b : ℕ) (bs : Text) → lead f (b ∷ bs) ≡ cond (not (f b)) 0 (1 + lead f bs) = λ b bs. cases (f b) (λ t. rw t (omega arith)) (λ t. rw t) in
-    rw (sym (is_position_or_len (lead f) (λ b. not (f b)) refl step x)) (place-or_length (lead f x) (length x) (lead-within f x))
-  where
-    place-or_length : (i n : ℕ) → i ≤ n → unwrap_or (cond (ltb i n) (Some i) None) n ≡ i
-    place-or_length i n h = cases (ltb i n) (λ t. rw t) (λ t. rw t (omega (arith, h, ltb-false i n t)))

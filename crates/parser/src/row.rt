@@ -29,24 +29,24 @@ pub struct Row {
 pub fn read_row(table: &[u32], node: Node) -> Row
     ensures { row_told result ≡ row_at table.now node.0 }
 {
-    let (rows, _) = table.as_chunks::<ROW_WORDS>();
-    let Some(&[kind, from, to, keyfrom, keyto, parent, children, past]) = rows.get(node.0) else {
+    if table.len() / ROW_WORDS <= node.0 {
         return Row::default();
-    };
+    }
+    let at = ROW_WORDS * node.0;
     Row {
-        kind,
-        from: Place(from as usize),
-        to: Place(to as usize),
-        keyfrom: Place(keyfrom as usize),
-        keyto: Place(keyto as usize),
-        parent: Parent(parent),
-        children,
-        past: Node(past as usize),
+        kind: table[at],
+        from: Place(table[at + 1] as usize),
+        to: Place(table[at + 2] as usize),
+        keyfrom: Place(table[at + 3] as usize),
+        keyto: Place(table[at + 4] as usize),
+        parent: Parent(table[at + 5]),
+        children: table[at + 6],
+        past: Node(table[at + 7] as usize),
     }
 }
 
-// The words that are known where a node opens: kind, name or content, key, parent. Word by word: with `copy_from_slice`
-// they would be put together first, and deep texts take a sixth more time.
+// The words that are known where a node opens: kind, name or content, key, parent.
+// Word by word: with `copy_from_slice` they would be put together first, and deep texts take a sixth more time.
 pub(crate) fn open_row(table: &mut [u32], kind: u32, from: Place, to: Place, slot: Slot)
     requires node_in_bounds { row_words * suc slot.node.0 ≤ length table.old }
     requires from_bound { (from.0 < 2 ^ 32) × (to.0 < 2 ^ 32) × (slot.key.from.0 < 2 ^ 32) × (slot.key.to.0 < 2 ^ 32) }

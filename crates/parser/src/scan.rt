@@ -30,7 +30,8 @@ pub(crate) struct Name {
 pub(crate) fn peek(text: &[u8], at: Place) -> u8
     ensures { result ≡ slice_index text.now at.0 }
 {
-    text.get(at.0).copied().unwrap_or(0)
+    let i = at.0;
+    if i < text.len() { text[i] } else { 0 }
 }
 
 // The end of the run of bytes of this class that begins here.
@@ -91,11 +92,12 @@ fn spaces_of_eight(eight: &[u8; 8]) -> u32
 fn run(text: &[u8], at: Place, class: Class) -> Place
     ensures { result.0 ≡ end_of (class_of class) text.now at.0 }
 {
-    let Some(rest) = text.get(at.0..) else {
-        return at;
-    };
-    let other = rest.iter().position(|b| !has(class, *b));
-    Place(at.0 + other.unwrap_or(rest.len()))
+    for i in at.0..text.len() {
+        if !has(class, text[i]) {
+            return Place(i);
+        }
+    }
+    Place(at.0.max(text.len()))
 }
 
 // The place of the first byte of 128 or more, or the text's length. Nearly every text has none, and the loop that finds the
@@ -141,11 +143,10 @@ fn has(class: Class, b: u8) -> bool
 fn is_blank(b: u8) -> bool
     ensures { result ≡ blank b }
 {
-    matches!(b, b' ' | b'\t' | b'\n' | b'\r')
+    b == b' ' || b == b'\t' || b == b'\n' || b == b'\r'
 }
 
-// Early returns, here and in the three below: with `||`, `matches!` or the library's `is_ascii_alphanumeric` the compiler looks for
-// letters last, and reading takes a quarter more time.
+// Early returns, here and in the three below: with `||`, `matches!` or std's classes letters are looked for last, and reading takes a quarter more time.
 fn is_ident(b: u8) -> bool
     ensures { result ≡ ident_byte b }
 {

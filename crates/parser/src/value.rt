@@ -135,11 +135,15 @@ fn enter(opener: Opener, at: Place, node: Node, left: usize) -> Result<Place, Re
     requires { (at.0 ≤ max_text) × (node.0 ≤ max_nodes) }
     ensures { Opens opener at.0 node.0 left result }
 {
-    match opener {
-        Opener::Container(_) if left == 0 => Err(Fault::TooDeep.at(at)),
-        _ if node.0 == MAX_NODES => Err(Fault::TooMany.at(at)),
-        _ => Ok(Place(at.0 + 1)),
+    if let Opener::Container(_) = opener {
+        if left == 0 {
+            return Err(Fault::TooDeep.at(at));
+        }
     }
+    if node.0 == MAX_NODES {
+        return Err(Fault::TooMany.at(at));
+    }
+    Ok(Place(at.0 + 1))
 }
 
 // Where the value stands that a text begins with: no key, no parent.
@@ -153,8 +157,8 @@ pub(crate) fn root() -> Slot
     }
 }
 
-// A value, with the key and the parent that its row shows. The text and the table stay two parameters: a struct that holds the
-// `&mut [u32]` needs a clause on its ghost name in every contract.
+// A value, with the key and the parent that its row shows.
+// The text and the table stay two parameters: a struct that holds the `&mut [u32]` needs a clause on its ghost name in every contract.
 #[cycle(cel_value_key_value_list)]
 pub(crate) fn cel_value(
     text: &[u8],
