@@ -1,4 +1,4 @@
-// The numbers of a line's fields.
+// The fields of a line: numbers, a text in hex, a list of words.
 ghost use Rattle.std.specs.Prelude.{◌≤◌, length};
 ghost use Rattle.lines.specs.Fields.{AtMost};
 

@@ -1,4 +1,4 @@
-// What a request gives and is lent.
+// What a request gives and is lent. All of it is fixed room: a rule of the project, no heap and the same memory for every line.
 
 // The most bytes of a line and of its answer.
 pub(crate) const LINE: usize = 65536;

@@ -85,6 +85,7 @@ fn put_strings(out: &mut Reply, text: &[u8], spans: &[[u32; 2]], first: usize, l
     }
 }
 
+// Policy, text and spans stay three parameters: only two functions take them, and one calls the other.
 // An accepted text: its policy, whose three lists stand one after the other in the span table, and the text that printing gives.
 fn put_policy(out: &mut Reply, policy: Policy, text: &[u8], spans: &[u32], printed: &[u8]) {
     let (spans, _) = spans.as_chunks::<2>();

@@ -26,6 +26,7 @@ pub struct PolicyAnswer {
     pub policy: Policy,
 }
 
+// The words of the span table that count: fixed and lent, as the node table is (no heap).
 pub const SPAN_WORDS: usize = 512;
 
 // An answer of reading a tree that stands for itself.

@@ -45,7 +45,7 @@ fn skip() -> Policy
 }
 
 impl ListKind {
-    // The number that SPEC.md gives it.
+    // The number that SPEC.md gives it. A method and no `From`: `u32::from(kind)` would not say which number is meant.
     fn number(self) -> u32
         ensures { result ≡ list_number self }
     {

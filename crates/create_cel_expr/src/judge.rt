@@ -105,7 +105,7 @@ pub(crate) fn over_any<'a>(
     })
 }
 
-// And 22.
+// And 22. No twin of `over_any`: it calls that one and judges one thing more.
 #[tactic(auto, using(crate::proofs::Judgings::judging))]
 pub(crate) fn over_set<'a>(
     policy: Policy,

@@ -21,7 +21,7 @@ use checked::Checked;
 use parser::MAX_TEXT;
 pub use refusal::Refusal;
 
-// The answer of printing: SPEC.md's five numbers, which callers print and compare; `Refusal` is the same as an enum.
+// The answer of printing: SPEC.md's five numbers, which callers print and compare; `Result<u32, Refusal>` says the same with an enum.
 #[derive(Clone, Copy)]
 pub struct Printed {
     pub refusal: u32,

@@ -23,7 +23,7 @@ const NOT_THERE: i32 = 22;
 
 const NO_TEXT: i32 = 84;
 
-// Room for any report, and for a line with any argument.
+// Room for any report, and for a line with any argument: fixed, since the project uses no heap.
 const PAGE: usize = 65536;
 
 const HELP: &[u8] = b"Usage: explain [FILE]\n\

@@ -87,7 +87,7 @@ pub fn number_after(line: &[u8], at: usize, most: u32) -> Option<Field>
     Some(Field { value, end })
 }
 
-// Where part `number` of a line begins, counted from 0, the parts being separated by a mark; the line's end where it has fewer parts.
+// Where part `number` of a line begins, counted from 0, at a mark each; the line's end where it has fewer parts. No program asks for it: docs/PROMISES.md promises it.
 pub fn part_start(line: &[u8], number: u32, mark: u8) -> usize
     ensures value { result ≡ part_from mark number line.now 0 }
     ensures upper_bound { result ≤ length line.now }

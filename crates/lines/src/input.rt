@@ -7,6 +7,7 @@ use crate::place::find;
 use std::io::Read;
 
 // A line of the input, from `from` up to `to`; how many bytes of the buffer are held, and whether the line was cut because it fills the buffer.
+// That it lies within its buffer stays a clause and no invariant: a line does not know its buffer, and `next` takes any (docs/PROMISES.md).
 #[derive(Clone, Copy, Debug, PartialEq, Eq)]
 pub struct Line {
     pub from: usize,

@@ -1,5 +1,5 @@
 // The numbers and bytes of an answer. Each function writes from a place of a lent buffer on and answers the place after what it wrote, as
-// `pieces::put` does.
+// `pieces::put` does. Loops that put piece after piece stay in their functions: the crate `pieces` says why.
 ghost use Rattle.pieces.specs.Pieces.{Wrote};
 ghost use Rattle.lines.specs.Texts.{numeral, after_commas, numerals, pair, pairs};
 

@@ -1,5 +1,6 @@
 // A page of text for a person, whatever bytes it is about: what is put is escaped where it is not plain, and lines are ended by a page's own
 // words alone. Each function writes a piece, as `pieces` has it, and answers the place after it.
+// Loops that put piece after piece stay in their functions: the crate `pieces` says why.
 #![tactic(auto)]
 
 ghost use Rattle.std.specs.Prelude.{◌≡◌, [], ◌∷◌, ◌++◌, length, replicate};

@@ -86,7 +86,7 @@ pub const MAX_DEPTH: usize = 32;
 
 pub const MAX_NODES: usize = 256;
 
-// The node table: the words that count, a row for each node that may be; and those of a row.
+// The node table: the words that count, a row for each node that may be; and those of a row. Tables are fixed and lent: a rule of the project, no heap.
 pub const NODE_WORDS: usize = ROW_WORDS * MAX_NODES;
 
 pub const ROW_WORDS: usize = 8;
@@ -149,7 +149,7 @@ pub fn read_tree(text: &[u8], table: &mut [u32]) -> Answer
     read_over(text, table)
 }
 
-// The same, but the words after an accepted tree's rows stay as lent.
+// The same, but the words after an accepted tree's rows stay as lent. Two functions: docs/PROMISES.md promises both, and the other is a clearing and this one.
 pub fn read_over(text: &[u8], table: &mut [u32]) -> Answer
     ensures answer { told result ≡ tree_answer (length table.old) text.now }
     ensures table { table.new ≡ tree_over text.now table.old }

@@ -22,7 +22,7 @@ pub(crate) enum Kind {
 }
 
 impl Kind {
-    // The kind as a row's first word names it.
+    // The kind as a row's first word names it. A method and no `From`: `u32::from(kind)` would not say which number is meant.
     fn number(self) -> u32
         ensures { result ≡ kind_number (kind_told self) }
     {
@@ -114,6 +114,7 @@ fn shown(opener: Opener, end: Place) -> Place
 }
 
 // What opens the value that is due here.
+// That a place lies in the text stays a clause, here, in `label` and in `scan::spaces`: a struct of both would be made anew, with that clause, at each place.
 fn opening(text: &[u8], at: Place) -> Result<Head, Refused>
     requires { at.0 ≤ length text.now }
     ensures { Begins text.now at.0 result }

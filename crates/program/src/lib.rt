@@ -22,7 +22,7 @@ pub fn arg_count(rt: &impl Env) -> usize
         .count()
 }
 
-// The room for the words of an error; what has no room is left out.
+// The room for the words of an error; what has no room is left out. Fixed, since the project uses no heap.
 const ROOM: usize = 128;
 
 // Writes a line to standard error: what failed, as the caller names it, a colon and the system's words for it, without the error's number,

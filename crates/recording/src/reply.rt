@@ -26,7 +26,7 @@ impl Reply {
     }
 }
 
-// The tables that reading is lent, turn after turn; the entries take two slices, as docs/PROMISES.md promises. They are read over: no word of them is looked at.
+// The tables that reading is lent, turn after turn, fixed (no heap); two slices for the entries (docs/PROMISES.md). Read over: no word of them is looked at.
 #[derive(Drop)]
 pub(crate) struct Tables {
     pub nodes: [u32; NODE_WORDS],

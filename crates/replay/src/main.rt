@@ -10,7 +10,7 @@ use std::io;
 use std::io::Read;
 use window::Held;
 
-// The room for what is held of the input, and for what a turn writes.
+// The room for what is held of the input, and for what a turn writes: fixed, since the project uses no heap, however long a recording is.
 const ROOM: usize = 65536;
 
 const HELP: &[u8] = b"Usage: replay <RECORDING\n\

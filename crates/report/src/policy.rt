@@ -157,7 +157,7 @@ impl Accepted<'_> {
     }
 }
 
-// A policy's form.
+// A policy's form: a number, as `Policy` has it for whoever calls.
 #[tactic(auto, unfolding(crate::specs::Policy::form_text, crate::specs::Words::part))]
 fn form(form: u32) -> &'static [u8]
     ensures { said result.now 0 ≡ form_text form }

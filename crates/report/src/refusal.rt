@@ -1,5 +1,5 @@
 // A refusal in words: its number, what it means, and the part of the text around its place. Refusals, kinds and names stay the numbers of
-// the answer (parser::Answer is SPEC.md's): each is looked at once, to be put into words.
+// the answer (parser::Answer is SPEC.md's): each is looked at only to be put into words.
 ghost use Rattle.std.specs.Prelude.{◌≡◌, ◌≤◌};
 ghost use Rattle.parser.specs.Found.{told};
 ghost use Rattle.pieces.specs.Pieces.{Wrote};
@@ -128,6 +128,7 @@ fn put_mapping(out: &mut [u8], at: usize, answer: Answer, found: u32) -> usize
     }
 }
 
+// The text and the table stay two parameters: only this function and `node::start` take both, and a struct for two uses is no plainer.
 pub(crate) fn put_refusal(
     out: &mut [u8],
     at: usize,

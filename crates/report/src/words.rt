@@ -1,4 +1,4 @@
-// Words for the kinds of nodes, and a part of a text. What has no words is nothing.
+// Words for the kinds of nodes, numbers as in the answer (parser::Answer is SPEC.md's), and a part of a text. What has no words is nothing.
 ghost use Rattle.std.specs.Prelude.{◌≡◌};
 ghost use Rattle.std.proofs.Math.Seq.{slice};
 ghost use Rattle.pieces.specs.Pieces.{Wrote};
