@@ -115,11 +115,7 @@ pub(crate) fn ascii_end(text: &[u8]) -> Place
 fn greatest(text: &[u8]) -> u8
     ensures { (k : ℕ) → k < length text.now → slice_index text.now k ≤ result }
 {
-    let mut most: u8 = 0;
-    for b in text {
-        most = most.max(*b);
-    }
-    most
+    text.iter().copied().max().unwrap_or(0)
 }
 
 // An identifier and the blanks around it.
