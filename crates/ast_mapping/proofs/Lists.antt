@@ -157,7 +157,7 @@ module _ (e : TreeNode) (name : ℕ) {row : Row} (k : RowRead e.table.now e.numb
         let end : next ≤ row.past.0 = m (omega (arith, k.past, list_tabled.begun)) in
         record {
           is = strings-are e.table.now e.text.now name e.number.0 e.held of-array next (omega arith) (λ i a b. are i (omega arith) b) (omega (arith, k.past));
-          small = tt;
+          inside = tt;
         }
 
     -- the next element

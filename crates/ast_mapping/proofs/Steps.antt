@@ -85,4 +85,4 @@ module _ (e : TreeNode) (name : ℕ) {row : Row} (k : RowRead e.table.now e.numb
       wrong-name f t = refuses t (rw f at decides) small
 
       pub right-name : b ≡ true → Checked e name (Ok tt)
-      right-name t = record { is = rw t at decides; small = tt }
+      right-name t = record { is = rw t at decides; inside = tt }

@@ -13,7 +13,7 @@ use Rattle.cel_policy.specs.declared.Policy.{Policy as Numbers}
 use Rattle.parser.specs.Found.{told}
 use Rattle.parser.specs.declared.Answer.{Answer as Tree-answer}
 use Rattle.ast_mapping.specs.declared.PolicyAnswer.{PolicyAnswer as Told-answer}
-use Rattle.ast_mapping.specs.View.{node_at}
+use Rattle.ast_mapping.specs.View.{strings_of, node_at}
 
 -- the struct that the program answers, in the numbers of SPEC.md
 abbrev pub policy_told : Told-answer → PolicyAnswer
@@ -21,10 +21,10 @@ policy_told r = record { answer = told r.answer; policy = numbers r.policy }
 
 -- ---- strings put into the table
 
--- these strings were written to the table s, the first as string `from`, the one after them as string `to`
-pub record PutList (l : List Span) (s s' : Words) (from to : ℕ) : Type 0 where
-  pub rows : s' ≡ sets s (2 * from) (span_rows l)
-  pub count : to ≡ from + length l
+-- the strings of the list n were written to the table s, the first as string `from`, the one after them as string `to`
+pub record PutList (w : Words) (n : ℕ) (s s' : Words) (from to : ℕ) : Type 0 where
+  pub rows : s' ≡ sets s (2 * from) (span_rows (strings_of w n))
+  pub count : to ≡ from + length (strings_of w n)
 
 -- what a mapping's outcome has: strings, and the policy's numbers
 abbrev pub strings_in : Mapped (Policy Span) → List Span

@@ -90,7 +90,7 @@ fn map_tree(text: &[u8], tree: Answer, nodes: &[u32], spans: &mut [u32]) -> Poli
         return tree.into();
     }
     let mapped = mapping::map_cel_ast(text, nodes);
-    span::settle(mapped, tree, spans)
+    span::settle(nodes, mapped, tree, spans)
 }
 
 // A refusal of 1: nothing was read.

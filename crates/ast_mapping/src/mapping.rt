@@ -44,9 +44,9 @@ pub(crate) enum Only<T> {
 
 // The request part: its two lists of strings.
 #[derive(Clone, Copy)]
-pub(crate) struct Request<'a> {
-    pub headers: TreeNode<'a>,
-    pub query: TreeNode<'a>,
+pub(crate) struct Request {
+    pub headers: Node,
+    pub query: Node,
 }
 
 // The kind of the response part's list.
@@ -58,17 +58,17 @@ pub(crate) enum ListKind {
 
 // The response part: its list of strings.
 #[derive(Clone, Copy)]
-pub(crate) struct Response<'a> {
+pub(crate) struct Response {
     pub kind: ListKind,
-    pub list: TreeNode<'a>,
+    pub list: Node,
 }
 
 // A policy, by the nodes of its lists of strings.
 #[derive(Clone, Copy)]
-pub(crate) enum Mapped<'a> {
+pub(crate) enum Mapped {
     Skip,
-    ResponseOnly(Response<'a>),
-    Full(Request<'a>, Response<'a>),
+    ResponseOnly(Response),
+    Full(Request, Response),
 }
 
 // The kind that a name expects: a function, the lists of strings, and otherwise an object.
@@ -168,19 +168,19 @@ fn exactly_one<T: Copy>(
 }
 
 // The list of strings at this key of the object.
-fn string_list<'a>(object: &TreeNode<'a>, name: u32) -> Result<TreeNode<'a>, Refusal>
+fn string_list(object: &TreeNode, name: u32) -> Result<Node, Refusal>
     ensures { Listing object.now name result }
 {
     let Some(list) = object.lookup(name) else {
         return Err(refused(MISSING_OBJECT_PROPERTY, name, object.number));
     };
     validate_string_array(&list, name)?;
-    Ok(list)
+    Ok(list.number)
 }
 
 // An object 8 with its two lists.
-fn request_lists<'a>(request: &TreeNode<'a>) -> Result<Request<'a>, Refusal>
-    ensures { RequestFound result (and_then (typed object RequestCertification (node_of request.now)) request_lists) }
+fn request_lists(request: &TreeNode) -> Result<Request, Refusal>
+    ensures { RequestFound request.now result (and_then (typed object RequestCertification (node_of request.now)) request_lists) }
 {
     validate_node(request, REQUEST_CERTIFICATION_OBJECT)?;
     let headers = string_list(request, CERTIFIED_REQUEST_HEADERS)?;
@@ -189,10 +189,8 @@ fn request_lists<'a>(request: &TreeNode<'a>) -> Result<Request<'a>, Refusal>
 }
 
 // The request part of an object 5, where it has one.
-fn validate_request_certification<'a>(
-    certification: &TreeNode<'a>,
-) -> Result<Option<Request<'a>>, Refusal>
-    ensures { Requested result (request_part (typed_of certification.now)) }
+fn validate_request_certification(certification: &TreeNode) -> Result<Option<Request>, Refusal>
+    ensures { Requested certification.now result (request_part (typed_of certification.now)) }
 {
     let only = exactly_one(
         certification.lookup(NO_REQUEST_CERTIFICATION),
@@ -208,8 +206,8 @@ fn validate_request_certification<'a>(
 }
 
 // The strings under key `headers` of the list object at this key, where both keys are present.
-fn response_headers<'a>(object: &TreeNode<'a>, name: u32) -> Result<Option<TreeNode<'a>>, Refusal>
-    ensures { HeadersFound result (list_of name (lookup name (children (node_of object.now)))) }
+fn response_headers(object: &TreeNode, name: u32) -> Result<Option<Node>, Refusal>
+    ensures { HeadersFound object.now result (list_of name (lookup name (children (node_of object.now)))) }
 {
     let Some(list) = object.lookup(name) else {
         return Ok(None);
@@ -219,14 +217,12 @@ fn response_headers<'a>(object: &TreeNode<'a>, name: u32) -> Result<Option<TreeN
         return Ok(None);
     };
     validate_string_array(&headers, name)?;
-    Ok(Some(headers))
+    Ok(Some(headers.number))
 }
 
 // The response part of an object 5. Both lists are looked at before either is found to be one too many.
-fn validate_response_certification<'a>(
-    certification: &TreeNode<'a>,
-) -> Result<Only<TreeNode<'a>>, Refusal>
-    ensures { Responded result (response_part (typed_of certification.now)) }
+fn validate_response_certification(certification: &TreeNode) -> Result<Only<Node>, Refusal>
+    ensures { Responded certification.now result (response_part (typed_of certification.now)) }
 {
     let Some(response) = certification.lookup(RESPONSE_CERTIFICATION) else {
         return Err(refused(
@@ -248,8 +244,8 @@ fn validate_response_certification<'a>(
 }
 
 // The policy of the two parts.
-fn certified<'a>(request: Option<Request<'a>>, response: Only<TreeNode<'a>>) -> Mapped<'a>
-    ensures { result ≡ certified_as request.entry response.entry }
+fn certified(request: Option<Request>, response: Only<Node>) -> Mapped
+    ensures { result ≡ certified_as request response }
 {
     let response = match response {
         Only::First(list) => Response {
@@ -268,8 +264,8 @@ fn certified<'a>(request: Option<Request<'a>>, response: Only<TreeNode<'a>>) -> 
 }
 
 // An object 5 with its two parts.
-fn validate_certification<'a>(certification: &TreeNode<'a>) -> Result<Mapped<'a>, Refusal>
-    ensures { Maps result (and_then (typed object Certification (node_of certification.now)) certification_parts) }
+fn validate_certification(certification: &TreeNode) -> Result<Mapped, Refusal>
+    ensures { Maps certification.now.table.now result (and_then (typed object Certification (node_of certification.now)) certification_parts) }
 {
     validate_node(certification, CERTIFICATION_OBJECT)?;
     let request = validate_request_certification(certification)?;
@@ -278,8 +274,8 @@ fn validate_certification<'a>(certification: &TreeNode<'a>) -> Result<Mapped<'a>
 }
 
 // An object 2, and in it the policy.
-fn validate_arguments<'a>(arguments: &TreeNode<'a>) -> Result<Mapped<'a>, Refusal>
-    ensures { Maps result (and_then (typed object ValidationArgs (node_of arguments.now)) validation_args) }
+fn validate_arguments(arguments: &TreeNode) -> Result<Mapped, Refusal>
+    ensures { Maps arguments.now.table.now result (and_then (typed object ValidationArgs (node_of arguments.now)) validation_args) }
 {
     validate_node(arguments, VALIDATION_ARGS)?;
     let only = exactly_one(
@@ -296,9 +292,9 @@ fn validate_arguments<'a>(arguments: &TreeNode<'a>) -> Result<Mapped<'a>, Refusa
 }
 
 // The root is a function 1, its first argument an object 2.
-pub(crate) fn map_cel_ast<'a>(text: &'a [u8], table: &'a [u32]) -> Result<Mapped<'a>, Refusal>
+pub(crate) fn map_cel_ast(text: &[u8], table: &[u32]) -> Result<Mapped, Refusal>
     requires { Held table.now text.now 0 }
-    ensures { Maps result (mapping (node_at table.now text.now 0)) }
+    ensures { Maps table.now result (mapping (node_at table.now text.now 0)) }
 {
     let root = TreeNode {
         text,

@@ -1,43 +1,35 @@
 // The span table: start and end of each string of a policy, request headers first, then query parameters, then response headers.
-ghost use Rattle.std.specs.Prelude.{◌≡◌, ◌+◌, ◌*◌, ◌≤◌, length};
-ghost use Rattle.cel_text.specs.Table.{row_words, word};
+ghost use Rattle.std.specs.Prelude.{◌≡◌, ◌+◌, ◌*◌, ◌≤◌, length, MatchResult};
 ghost use Rattle.cel_policy.specs.Policy.{Span, counted, numbers, all_strings};
 ghost use Rattle.cel_policy.specs.Mapping.{skipped};
 ghost use Rattle.cel_policy.specs.Spans.{spans_left};
 ghost use Rattle.parser.specs.Found.{told};
 ghost use Rattle.ast_mapping.specs.declared.mapping.Mapped.TheVariants.{ResponseOnly, Full};
-ghost use Rattle.ast_mapping.specs.Steps.{refusal_told, SmallNode, SmallRefusal, list_strings, list_number, policy_as, mapped_as};
+ghost use Rattle.ast_mapping.specs.View.{strings_of, Tabled};
+ghost use Rattle.ast_mapping.specs.Steps.{refusal_told, SmallNode, list_number, policy_as, mapped_as, MappedIn};
 ghost use Rattle.ast_mapping.specs.Spans.{PutList, Put, strings_in, few, spare_from, refused_in, Settled};
 
 use crate::mapping::{ListKind, Mapped, Refusal, Request, Response};
-use crate::tree::TreeNode;
 use crate::{PolicyAnswer, SPAN_WORDS};
 use cel_policy::{EXCLUSIONS, FULL, INCLUSIONS, Policy, RESPONSE_ONLY, SKIP};
 use parser::row::read_row;
 use parser::{ACCEPTED, Answer, Node, TABLE_TOO_SHORT};
 
-// The ends of a string, as its row has them. The table by itself: of a slice in a struct it is not found that its numbers are words.
-fn ends(table: &[u32], string: Node) -> (u32, u32)
-    requires { row_words * (string.0 + 1) ≤ length table.now }
-    ensures { (result.0 ≡ word table.now string.0 1) × (result.1 ≡ word table.now string.0 2) }
-{
-    let row = read_row(table, string);
-    (row.from.0 as u32, row.to.0 as u32)
-}
-
 // Writes the strings of a list, the first as string `from`, and answers the number of the string after them.
-fn put_list(list: TreeNode, spans: &mut [u32], from: usize) -> usize
-    requires { 2 * (from + length (list_strings list)) ≤ length spans.old }
-    ensures { PutList (list_strings list.entry) spans.old spans.new from result }
+// Nodes and a table, and no `TreeNode`: with those in `Response` and `Request` 247 headers took a little over the fifth of the Rust's time that is aimed at.
+fn put_list(table: &[u32], list: Node, spans: &mut [u32], from: usize) -> usize
+    requires tabled { Tabled table.now list.0 }
+    requires list_in_bounds { 2 * (from + length (strings_of table.now list.0)) ≤ length spans.old }
+    ensures { PutList table.now list.0 spans.old spans.new from result }
 {
-    let first = list.number.0 + 1;
-    let count = list.row().past.0 - first;
+    let first = list.0 + 1;
+    let count = read_row(table, list).past.0 - first;
     // By index: `as_chunks_mut` says nothing of what the slice ends as.
     for i in 0..count {
-        let (start, end) = ends(list.table, Node(first + i));
+        let string = read_row(table, Node(first + i));
         let at = 2 * (from + i);
-        spans[at] = start;
-        spans[at + 1] = end;
+        spans[at] = string.from.0 as u32;
+        spans[at + 1] = string.to.0 as u32;
     }
     from + count
 }
@@ -64,11 +56,12 @@ impl ListKind {
     }
 }
 
-fn put_response(response: Response, spans: &mut [u32]) -> Policy
-    requires { few spans.old (list_strings response.list) }
-    ensures { Put (policy_as (ResponseOnly response.entry)) spans.old spans.new result }
+fn put_response(table: &[u32], response: Response, spans: &mut [u32]) -> Policy
+    requires tabled { Tabled table.now response.list.0 }
+    requires few { few spans.old (strings_of table.now response.list.0) }
+    ensures { Put (policy_as table.now (ResponseOnly response)) spans.old spans.new result }
 {
-    let count = put_list(response.list, spans, 0);
+    let count = put_list(table, response.list, spans, 0);
     Policy {
         form: RESPONSE_ONLY,
         kind: response.kind.number(),
@@ -77,13 +70,14 @@ fn put_response(response: Response, spans: &mut [u32]) -> Policy
     }
 }
 
-fn put_full(request: Request, response: Response, spans: &mut [u32]) -> Policy
-    requires { few spans.old (all_strings (policy_as (Full request response))) }
-    ensures { Put (policy_as (Full request.entry response.entry)) spans.old spans.new result }
+fn put_full(table: &[u32], request: Request, response: Response, spans: &mut [u32]) -> Policy
+    requires tabled { Tabled table.now request.headers.0 × Tabled table.now request.query.0 × Tabled table.now response.list.0 }
+    requires few { few spans.old (all_strings (policy_as table.now (Full request response))) }
+    ensures { Put (policy_as table.now (Full request response)) spans.old spans.new result }
 {
-    let first = put_list(request.headers, spans, 0);
-    let second = put_list(request.query, spans, first);
-    let third = put_list(response.list, spans, second);
+    let first = put_list(table, request.headers, spans, 0);
+    let second = put_list(table, request.query, spans, first);
+    let third = put_list(table, response.list, spans, second);
     Policy {
         form: FULL,
         kind: response.kind.number(),
@@ -120,31 +114,33 @@ fn refused_in(tree: Answer, refusal: Refusal) -> Answer
 }
 
 // The strings of a policy are put into the span table.
-fn put_policy(mapped: Mapped, spans: &mut [u32]) -> Policy
-    requires { few spans.old (all_strings (policy_as mapped)) }
-    ensures { Put (policy_as mapped.entry) spans.old spans.new result }
+fn put_policy(table: &[u32], mapped: Mapped, spans: &mut [u32]) -> Policy
+    requires mapped_in { MappedIn table.now mapped }
+    requires few { few spans.old (all_strings (policy_as table.now mapped)) }
+    ensures { Put (policy_as table.now mapped) spans.old spans.new result }
 {
     match mapped {
         Mapped::Skip => skip(),
-        Mapped::ResponseOnly(response) => put_response(response, spans),
-        Mapped::Full(request, response) => put_full(request, response, spans),
+        Mapped::ResponseOnly(response) => put_response(table, response, spans),
+        Mapped::Full(request, response) => put_full(table, request, response, spans),
     }
 }
 
 // The answer of a tree that was mapped. The strings of a policy are put into the span table.
 pub(crate) fn settle(
+    table: &[u32],
     mapped: Result<Mapped, Refusal>,
     tree: Answer,
     spans: &mut [u32],
 ) -> PolicyAnswer
-    requires small { SmallRefusal mapped }
-    requires few { few spans.old (strings_in (mapped_as mapped)) }
-    ensures { Settled (mapped_as mapped.entry) tree spans.old spans.new result }
+    requires mapped_in { MatchResult mapped (MappedIn table.now) SmallNode }
+    requires few { few spans.old (strings_in (mapped_as table.now mapped)) }
+    ensures { Settled (mapped_as table.now mapped) tree spans.old spans.new result }
 {
     match mapped {
         Ok(policy) => PolicyAnswer {
             answer: tree,
-            policy: put_policy(policy, spans),
+            policy: put_policy(table, policy, spans),
         },
         Err(refusal) => refused_in(tree, refusal).into(),
     }

@@ -5,7 +5,6 @@ use Rattle.std.proofs.Math.Seq.{drop-append_seam}
 use Rattle.std.proofs.lemmas.Bool.{eqb-false}
 use borrow.Table.Steps.{cases}
 use Rattle.groups.specs.declared.Number.{Number}
-use Rattle.groups.specs.declared.Number.{Number}
 use Rattle.groups.specs.declared.Fault.{Fault}
 use Rattle.groups.specs.declared.Fault.TheVariants.{Cut, Padded, TooMany}
 use Rattle.groups.specs.Groups.{Grouped, last, more, Shortest, groups_in, groups, max_number, whole, before, number_in, number}

@@ -9,5 +9,5 @@ pub settle-requires-clause-few : goal.settle-requires-clause-few
 settle-requires-clause-few c =
     let w = c.args.nodes.now in
     let few =
-    mapped-few (node_at w c.args.text.now 0) (root-small (c.requires.held c.if-tree-ne-ACCEPTED.false)) (mapped_as c.map_cel_ast-mapped.result) c.map_cel_ast-mapped.ensures.is in
+    mapped-few (node_at w c.args.text.now 0) (root-small (c.requires.held c.if-tree-ne-ACCEPTED.false)) (mapped_as w c.map_cel_ast-mapped.result) c.map_cel_ast-mapped.ensures.is in
     (omega (arith, few, c.requires.spans_len), omega (arith, few))

@@ -18,4 +18,4 @@ unfolding request_lists
 returns c =
     goes_on _ c.in_ok-validate_node.ensures
     (goes_on _ c.in_ok-headers.ensures
-    (goes_on _ c.in_ok-query.ensures (record { is = refl; small = tt })))
+    (goes_on _ c.in_ok-query.ensures (record { is = refl; inside = (c.in_ok-headers.ensures.inside, c.in_ok-query.ensures.inside) })))

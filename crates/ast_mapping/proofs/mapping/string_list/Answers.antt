@@ -14,4 +14,4 @@ returns-in_err-validate_string_array c = rw (sym c.in-Some.ensures.found) (halts
 
 pub returns : goal.returns
 unfolding list_at present
-returns c = rw (sym c.in-Some.ensures.found) (listed c.in-Some.list c.args.name c.in_ok-validate_string_array.ensures)
+returns c = rw (sym c.in-Some.ensures.found) (listed c.in-Some.list c.args.name c.in-Some.ensures.same c.in_ok-validate_string_array.ensures)

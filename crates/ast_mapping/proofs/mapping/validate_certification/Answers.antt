@@ -15,4 +15,5 @@ returns-in_err-response c =
 pub returns : goal.returns
 unfolding certification_parts
 returns c = goes_on _ c.in_ok-validate_node.ensures (goes_on _ c.in_ok-request.ensures (goes_on _ c.in_ok-response.ensures
-    (rw c.certified.ensures (certified-gives c.in_ok-request.request c.in_ok-response.response))))
+    (rw c.certified.ensures (certified-gives c.args.certification.now.table.now c.in_ok-request.request c.in_ok-response.response
+    c.in_ok-request.ensures.inside c.in_ok-response.ensures.inside))))

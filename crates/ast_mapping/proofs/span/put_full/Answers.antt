@@ -8,4 +8,4 @@ returns c =
     let q = c.put_list-second in
     let r = c.put_list-third in
     rw c.number.ensures
-    (put-lists c.args.request c.args.response c.args.spans.now p.new.spans q.new.spans r.new.spans p.result q.result r.result p.ensures q.ensures r.ensures)
+    (put-lists c.args.table.now c.args.request c.args.response c.args.spans.now p.new.spans q.new.spans r.new.spans p.result q.result r.result p.ensures q.ensures r.ensures)

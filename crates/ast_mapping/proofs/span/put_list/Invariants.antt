@@ -8,5 +8,5 @@ use Rattle.ast_mapping.proofs.span.put_list.Given as goal
 
 abbrev pub invariant-loop-i : goal.invariant-loop-i
 invariant-loop-i l =
-    sets l.initial.spans (2 * l.from) (span_rows (spans_from l.list.table.now l.first l.count))
-    ≡ sets l.spans (2 * (l.from + l.i)) (span_rows (spans_from l.list.table.now (l.first + l.i) (l.count - l.i)))
+    sets l.initial.spans (2 * l.from) (span_rows (spans_from l.table l.first l.count))
+    ≡ sets l.spans (2 * (l.from + l.i)) (span_rows (spans_from l.table (l.first + l.i) (l.count - l.i)))
