@@ -8,8 +8,7 @@ apart='tests/holes tests/imports tests/promises tests/quotes tests/scripts tests
 
 # The archive, and the tests on it; the tests on the programs. The two rows take about the same time, and the first alone calls `rt`.
 on_archive='./archive tests/axioms tests/host/run tests/fuzz/replay tests/readme'
-on_programs='tests/explain tests/examples tests/spec-misuse tests/live tests/second-opinion tests/model/misuse'
-if grep -q '^replay:' crates.txt; then on_programs="$on_programs tests/recordings/run tests/recordings/compare tests/recordings/misuse"; fi
+on_programs='tests/explain tests/examples tests/spec-misuse tests/live tests/second-opinion tests/model/misuse tests/recordings/run tests/recordings/compare tests/recordings/misuse'
 
 may_skip='. Where something is only missing, HILLADOK_MAY_SKIP=1 has the tests that need it skipped'
 

@@ -1,5 +1,5 @@
 //! Read, map and print: the original Rust and the archive, on the same texts, in turns. Then a recording: the original and the program
-//! `replay`. `bench` prints the first table, `bench PROGRAM` both, `bench replay` is the original on a recording.
+//! `replay`. `bench PROGRAM` prints both tables; `bench replay`, which it calls, is the original on a recording.
 
 mod cel;
 mod replay;
@@ -107,7 +107,7 @@ fn compare(name: &str, texts: &[String]) {
     println!("| {name} | {:.0} | {:.0} | {:.2} |", rust / per, here / per, here / rust);
 }
 
-fn tables(program: Option<&str>) -> io::Result<()> {
+fn tables(program: &str) -> io::Result<()> {
     let spaced = fixtures();
     let plain: Vec<String> = spaced.iter().map(|text| without_blanks(text)).collect();
     println!("| text | the Rust, ns | here, ns | ratio |");
@@ -116,14 +116,14 @@ fn tables(program: Option<&str>) -> io::Result<()> {
     compare("the same with their blanks", &spaced);
     compare("247 headers", &[many_headers(247)]);
     compare("32 levels", &[levels(32)]);
-    let Some(program) = program else { return Ok(()) };
     println!();
     replay::compare("100,000 fixtures with their blanks", program, &spaced)
 }
 
 fn main() -> io::Result<()> {
-    match env::args().nth(1) {
-        Some(word) if word == "replay" => replay::replay(),
-        program => tables(program.as_deref()),
+    match env::args().nth(1).as_deref() {
+        Some("replay") => replay::replay(),
+        Some(program) => tables(program),
+        None => panic!("no program to time"),
     }
 }

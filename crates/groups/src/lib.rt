@@ -1,5 +1,5 @@
 // Numbers in groups of seven bits, the lowest group first, in at most three bytes: a byte of 128 or more is a group that another follows.
-// Definitions in specs/Groups.antt, and what is true of them in specs/Laws.antt.
+// Definitions in specs/Groups.antt, and what is true of them in proofs/Laws.antt.
 #![tactic(auto)]
 
 ghost use Rattle.std.specs.Prelude.{◌≡◌};

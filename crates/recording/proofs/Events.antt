@@ -6,7 +6,7 @@ use lib.ListN.{length}
 use Rattle.cel_text.specs.Byte.{Text}
 use Rattle.groups.specs.declared.Number.{Number}
 use Rattle.groups.specs.Groups.{number}
-use Rattle.groups.specs.Laws.{Fits, number_fits}
+use Rattle.groups.proofs.Laws.{Fits, number_fits}
 
 pub size_fits : (w : Text) (n : Number) → Ok n ≡ number w → n.size ≤ length w
 size_fits w n e = (subst (Fits 2 (length w)) (sym e) (number_fits w)).1

@@ -1,2 +1,4 @@
+pub mod Laws
 pub mod Events
 mod Turns
+mod Cases

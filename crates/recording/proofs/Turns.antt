@@ -25,9 +25,9 @@ use Rattle.recording.specs.Replay.{reply_to, too_long, last_line}
 use Rattle.recording.specs.Window.{event, part, says, takes, becomes, goes, skipping_on}
 use Rattle.recording.specs.Turn.{Turned, begun, stepped, line_room, onward, turn_from, max_count, countable, turned, turn_of}
 use Rattle.recording.specs.Steps.{Counts, turn_at, Answered, After, Stepped, turns, Drained}
-use Rattle.recording.specs.Laws.Event.{Moves, event-moves}
-use Rattle.recording.specs.Laws.Lengths.{says-short}
-use Rattle.recording.specs.Laws.Turn.{Kept, kept-begun, kept_step, step-uses, turned-not, turned-is}
+use Rattle.recording.proofs.Laws.Event.{Moves, event-moves}
+use Rattle.recording.proofs.Laws.Lengths.{says-short}
+use Rattle.recording.proofs.Laws.Turn.{Kept, kept-begun, kept_step, step-uses, turned-not, turned-is}
 
 -- ---- one step
 

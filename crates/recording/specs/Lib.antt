@@ -2,4 +2,3 @@ pub mod Replay
 pub mod Window
 pub mod Turn
 pub mod Steps
-pub mod Laws

@@ -1,5 +1,5 @@
 // Replaying a recording that arrives in pieces. `advance` answers the records that lie in the bytes held, and says how far it came, what it wrote
-// and why it stopped. It reads no input and writes no output: a program moves the bytes. Definitions in specs/, what is true of them in specs/Laws/.
+// and why it stopped. It reads no input and writes no output: a program moves the bytes. Definitions in specs/, what is true of them in proofs/Laws/.
 #![tactic(auto)]
 
 mod line;

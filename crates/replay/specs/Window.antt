@@ -1,5 +1,6 @@
 -- What is held of standard input, and how it goes on from turn to turn. Assumes nothing.
-use Rattle.std.specs.Prelude.{◌≡◌, ℕ, ◌+◌, ◌-◌, ◌≤◌, ◌<◌, Bool, true, false, List, [], ◌++◌, length, take, drop}
+use Rattle.std.specs.Prelude.{◌≡◌, ℕ, ◌+◌, ◌-◌, ◌≤◌, ◌<◌, Bool, true, false, List, [], ◌++◌, length, take, drop, eqb, Option, Some, None}
+use Rattle.std.specs.declared.io.Error.{Error}
 use Rattle.cel_text.specs.Byte.{Text}
 use Rattle.recording.specs.declared.State.{State}
 use Rattle.recording.specs.declared.Why.{Why}
@@ -17,27 +18,32 @@ pub record Inside (input : Text) (h : Held) : Type 0 where
 abbrev pub window_of : Text → Held → Text
 window_of input h = take (h.end - h.at) (drop h.at input)
 
--- behind the bytes that were left stands a piece, none at the end of the input
-pub record Reads (rest window : Text) (ended : Bool) : Type 0 where
+-- what one read brings: the input has ended where it brings nothing; one that fails brings nothing either, and is no end
+abbrev pub Brought : (failed : Option Error) → (piece : Text) → (ended : Bool) → Type 0
+Brought None piece ended = ended ≡ eqb (length piece) 0
+Brought (Some e) piece ended = (piece ≡ []) × (ended ≡ false)
+
+-- behind the bytes that were left stands the piece that was read
+pub record Reads (rest window : Text) (ended : Bool) (failed : Option Error) : Type 0 where
   pub piece : Text
   pub read : window ≡ rest ++ piece
-  pub none : ended ≡ true → piece ≡ []
+  pub brought : Brought failed piece ended
 
 -- one read behind the first `kept` bytes of the buffer
 pub record Read (kept : ℕ) (input input' : Text) (r : Held) : Type 0 where
   pub inside : Inside input' r
-  pub brought : Reads (take kept input) (window_of input' r) r.ended
+  pub reads : Reads (take kept input) (window_of input' r) r.ended r.failed
 
 -- what a turn's reason to stop asks for
-abbrev pub Next : Why → (rest : Text) (ended : Bool) (window : Text) (ended' : Bool) → Type 0
-Next Wanting rest ended window ended' = Reads rest window ended'
-Next Full rest ended window ended' = (window ≡ rest) × (ended' ≡ ended)
-Next Over rest ended window ended' = (window ≡ rest) × (ended' ≡ ended)
+abbrev pub Next : Why → (rest : Text) (ended : Bool) (window : Text) (ended' : Bool) (failed : Option Error) → Type 0
+Next Wanting rest ended window ended' failed = Reads rest window ended' failed
+Next Full rest ended window ended' failed = (window ≡ rest) × (ended' ≡ ended)
+Next Over rest ended window ended' failed = (window ≡ rest) × (ended' ≡ ended)
 
 -- what is held after a turn
 pub record Follows (input : Text) (h : Held) (turn : Turn) (input' : Text) (r : Held) : Type 0 where
   pub inside : Inside input' r
-  pub next : Next turn.why (drop turn.used (window_of input h)) h.ended (window_of input' r) r.ended
+  pub next : Next turn.why (drop turn.used (window_of input h)) h.ended (window_of input' r) r.ended r.failed
 
 -- that is asked for it: the turn used no more than was held, and leaves room to read where it wants bytes
 pub record Asks (input : Text) (h : Held) (turn : Turn) : Type 0 where

@@ -36,7 +36,7 @@ impl Held {
 fn refill<R: io::Read>(reader: &mut R, input: &mut [u8], at: usize, end: usize) -> Held
     requires { (at ≤ end) × (end ≤ length input.old) × (end - at < length input.old) }
     ensures inside { Inside input.new result }
-    ensures reads { Reads (take (end - at) (drop at input.old)) (window_of input.new result) result.ended }
+    ensures reads { Reads (take (end - at) (drop at input.old)) (window_of input.new result) result.ended result.failed }
 {
     lines::to_front(input, at, end);
     read_more(reader, input, end - at)

@@ -8,7 +8,7 @@ use Rattle.recording.specs.declared.Why.TheVariants.{Wanting, Full, Over}
 use Rattle.recording.specs.Replay.{heading, replayed}
 use Rattle.recording.specs.Window.{owed, owed_as}
 use Rattle.recording.specs.Turn.{beginning, Turned, line_room, max_count, countable, turned, Runs, over, full, reads, ends, joined}
-use Rattle.recording.specs.Laws.Turn.{Kept, turned-kept, turned-uses, turned-wanting}
+use Rattle.recording.proofs.Laws.Turn.{Kept, turned-kept, turned-uses, turned-wanting}
 
 -- so many bytes, held and to come, can be counted
 pub record Counted (s : State) (bytes : ℕ) : Type 0 where

@@ -1,6 +1,6 @@
 pub mod Records
+pub mod Recorded
 pub mod Event
 pub mod Lengths
 pub mod Turn
 pub mod Run
-pub mod Cases

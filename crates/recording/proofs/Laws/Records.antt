@@ -5,10 +5,10 @@ use Rattle.cel_text.specs.Byte.{Text}
 use Rattle.groups.specs.declared.Number.{Number}
 use Rattle.groups.specs.declared.Fault.{Fault}
 use Rattle.groups.specs.Groups.{number}
-use Rattle.groups.specs.Laws.{Fits, number_fits}
+use Rattle.groups.proofs.Laws.{Fits, number_fits}
 use Rattle.recording.specs.Replay.{Recording, first, body_then, record_then, record_or, records_in, records}
 
-shorter-rest : (n size : ℕ) (x : Text) → 1 ≤ size → size ≤ length x → length (drop n (drop size x)) < length x
+pub shorter-rest : (n size : ℕ) (x : Text) → 1 ≤ size → size ≤ length x → length (drop n (drop size x)) < length x
 shorter-rest n size x h l = simp (length-drop, length-drop) (omega arith)
 
 -- two readers that agree on shorter recordings agree on this one

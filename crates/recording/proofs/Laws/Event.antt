@@ -13,7 +13,7 @@ use Rattle.groups.specs.declared.Number.{Number}
 use Rattle.groups.specs.declared.Fault.{Fault}
 use Rattle.groups.specs.declared.Fault.TheVariants.{Cut, Padded, TooMany}
 use Rattle.groups.specs.Groups.{whole, number}
-use Rattle.groups.specs.Laws.{Settled, number_append, Fits, number_fits}
+use Rattle.groups.proofs.Laws.{Settled, number_append, Fits, number_fits}
 use Rattle.recording.specs.declared.Ending.TheVariants.{Complete, BrokenLength, BrokenBody}
 use Rattle.recording.specs.declared.reply.Reply.{Reply}
 use Rattle.recording.specs.declared.State.{State}
@@ -21,7 +21,7 @@ use Rattle.recording.specs.declared.window.Event.{Event}
 use Rattle.recording.specs.declared.window.Event.TheVariants.{Body, Skipping, Skipped, Wanting, Last}
 use Rattle.recording.specs.Replay.{body_then, record_then, records, line, last_line, reply_to, too_long, refusals, lines_of}
 use Rattle.recording.specs.Window.{unless, length_event, skip_event, event, says, takes, becomes, goes, owed_past, owed, owed_as}
-use Rattle.recording.specs.Laws.Records.{records-next, records-number}
+use Rattle.recording.proofs.Laws.Records.{records-next, records-number}
 
 -- a body of more than 8,192 bytes is answered with 2, whatever its bytes are
 pub reply-long : (t : Text) → max_text < length t → reply_to t ≡ too_long

@@ -15,8 +15,8 @@ use Rattle.recording.specs.declared.window.Event.TheVariants.{Body, Skipping, Sk
 use Rattle.recording.specs.Replay.{reply_to, too_long, refusals}
 use Rattle.recording.specs.Window.{event, part, says, takes, becomes, goes, owed, owed_as}
 use Rattle.recording.specs.Turn.{Turned, begun, stepped, line_room, onward, turn_from, max_count, countable, turned}
-use Rattle.recording.specs.Laws.Event.{event-right, most_held, Moves, event-moves}
-use Rattle.recording.specs.Laws.Lengths.{says-short}
+use Rattle.recording.proofs.Laws.Event.{event-right, most_held, Moves, event-moves}
+use Rattle.recording.proofs.Laws.Lengths.{says-short}
 
 -- what holds of a turn, over the bytes held, that began in state s₀: `held` bytes can be counted from there
 module _ (s₀ : State) (held : Text) (ended : Bool) (room : ℕ) where
