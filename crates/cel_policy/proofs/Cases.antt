@@ -5,35 +5,12 @@ use mathlib.Core.Path.{◌≡◌, refl}
 use mathlib.Core.List.{List, [], ◌∷◌, ◌++◌, map}
 use Prim.Native.Nat.{ℕ, zero, suc, ◌-◌}
 use lib.ListN.{replicate, length, take}
-use Rattle.cel_text.specs.Byte.{Text, ascii, string_byte, blank, ident_byte, alphanumeric, bytes}
-use Rattle.cel_text.specs.Reading.{enter, enter_string, past, bare, start, unquote, step}
+use Rattle.cel_text.specs.Byte.{Text, string_byte, bytes}
 use Rattle.cel_text.specs.Table.{Words}
 use Rattle.cel_text.specs.Answer.{Answer, tree_answer, tree_table}
-use Rattle.cel_policy.specs.Names.{spelling}
 use Rattle.cel_policy.specs.Policy.{Counted}
-use Rattle.cel_policy.specs.Mapping.{typed, lookup, present, element, elements, string_array, first_of, first_child, headers_of, list_of, response_lists, response_part, list_at, request_lists}
-use Rattle.cel_policy.specs.Mapping.{request_of, request_part, certification_parts, certification_of, validation_args, mapping}
-use Rattle.cel_policy.specs.Spans.{span_table}
-use Rattle.cel_policy.specs.Printed.{skip_text, request_text, response_text, response_only_text, full_text, printed, shaped}
-use Rattle.cel_policy.specs.Answers.{PolicyAnswer, policy_answer, policy_nodes, policy_spans, span_fits, bytes_fit, judgement, sized, find_print, PrintAnswer, print_answer, print_output, find_canonical}
-use Rattle.cel_policy.specs.Answers.{canonical_answer, canonical_output}
-
--- what an answer is computed through: reading, mapping, printing
-reading : Unit {0}
-unfolding ascii string_byte blank ident_byte alphanumeric enter enter_string past bare start unquote step tree_answer tree_table
-reading = tt
-
-listing : Unit {0}
-unfolding spelling element elements string_array headers_of list_of list_at response_lists request_lists request_of
-listing = tt
-
-mapped : Unit {0}
-unfolding listing typed lookup present first_of first_child request_part response_part certification_parts certification_of validation_args mapping span_table policy_answer policy_nodes policy_spans
-mapped = tt
-
-printing : Unit {0}
-unfolding skip_text request_text response_text response_only_text full_text printed shaped span_fits bytes_fit judgement sized find_print print_answer print_output find_canonical canonical_answer canonical_output
-printing = tt
+use Rattle.cel_policy.specs.Answers.{PolicyAnswer, policy_answer, policy_nodes, policy_spans, PrintAnswer, print_answer, print_output, canonical_answer, canonical_output}
+use Rattle.cel_policy.proofs.Computing.{reading, mapped, printing}
 
 -- a table of words as it is left: the words, then zeros
 abbrev spare : ℕ → Words → Words

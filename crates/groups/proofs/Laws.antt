@@ -1,6 +1,7 @@
 -- What is true of numbers in groups: reading undoes writing, writing undoes reading, and each number has one shortest form. Assumes nothing.
 use Rattle.std.specs.Prelude.{◌≡◌, refl, ℕ, zero, suc, ◌+◌, ◌-◌, ◌*◌, ◌/◌, ◌%◌, ◌^◌, ◌≤◌, ◌<◌, List, [], ◌∷◌, ◌++◌, length, drop, ltb, eqb, Result, Ok, Err}
-use Rattle.std.proofs.Common.{sym, ap, ◌∙◌, pow-suc, div-lt_iff_lt-mul, arith, lt-ltb, le-ltb, ltb-true, ltb-false, ne_eqb}
+use Rattle.std.specs.List.{AllByRecursion}
+use Rattle.std.proofs.Common.{sym, ap, subst, ◌∙◌, pow-suc, div-lt_iff_lt-mul, arith, lt-ltb, le-ltb, ltb-true, ltb-false, ne_eqb}
 use Rattle.std.proofs.Math.Seq.{drop-append_seam}
 use Rattle.std.proofs.lemmas.Bool.{eqb-false}
 use borrow.Table.Steps.{cases}
@@ -65,11 +66,6 @@ groups-apart m n x y h l e =
 
 -- ---- writing undoes reading
 
--- bytes, not greater numbers
-abbrev pub Bytes : List ℕ → Type 0
-Bytes [] = Unit
-Bytes (b ∷ x) = (b < 256) × Bytes x
-
 -- what is read of at most left + 1 groups is the form of that number, and then the rest
 pub record Front (left : ℕ) (x : List ℕ) (n size : ℕ) : Type 0 where
   pub bound : n < 128 ^ suc left
@@ -114,7 +110,7 @@ module _ (left b : ℕ) (x : List ℕ) (n size : ℕ) (o : 128 ≤ b) (s : b < 2
       (λ t. more-front left b x m.value m.size n size o s (eqb-false m.value 0 t) (f m.value m.size refl) (rw t at e))
   before-front (Err fault) f e = not-fault e
 
-front-number : (left : ℕ) (x : List ℕ) (n size : ℕ) → Bytes x → number_in left x ≡ whole n size → Front left x n size
+front-number : (left : ℕ) (x : List ℕ) (n size : ℕ) → AllByRecursion (λ (b : ℕ). b < 256) x → number_in left x ≡ whole n size → Front left x n size
 front-number left [] n size bs e = not-fault e
 front-number zero (b ∷ x) n size bs e =
     cases (ltb b 128) (λ t. one-front zero b x n size (ltb-true b 128 t) (rw t at e)) (λ t. not-fault (rw t at e))
@@ -124,7 +120,9 @@ front-number (suc left) (b ∷ x) n size bs e =
     (λ t. before-front left b x n size (ltb-false b 128 t) bs.0 (number_in left x) (λ m k q. front-number left x m k bs.1 q) (rw t at e))
 
 -- a number that is read is at most 2,097,151, and its bytes are its form
-pub groups-number : (x : List ℕ) (n size : ℕ) → Bytes x → number x ≡ whole n size → (n ≤ max_number) × (size ≡ length (groups n)) × (x ≡ groups n ++ drop size x)
+pub groups-number :
+    (x : List ℕ) (n size : ℕ) → AllByRecursion (λ (b : ℕ). b < 256) x → number x ≡ whole n size
+    → (n ≤ max_number) × (size ≡ length (groups n)) × (x ≡ groups n ++ drop size x)
 unfolding groups number
 groups-number x n size bs e =
     let f : Front 2 x n size = front-number 2 x n size bs e in
@@ -180,6 +178,9 @@ number_in-fits (suc left) (b ∷ x) =
 pub number_fits : (x : List ℕ) → Fits 2 (length x) (number x)
 unfolding number
 number_fits x = number_in-fits 2 x
+
+pub fits_as : (x : List ℕ) (q : Result Number Fault) → number x ≡ q → Fits 2 (length x) q
+fits_as x q e = subst (Fits 2 (length x)) e (number_fits x)
 
 -- ---- the form is the shortest, and the only one so short
 

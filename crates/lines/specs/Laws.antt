@@ -1,5 +1,6 @@
 -- What is true of numbers and bytes as they are written: how `io` writes them, how long they are, and that they are read back. Assumes nothing.
 use Rattle.std.specs.Prelude.{◌≡◌, refl, ℕ, zero, suc, ◌+◌, ◌-◌, ◌*◌, ◌/◌, ◌%◌, ◌^◌, ◌≤◌, ◌<◌, List, [], ◌∷◌, ◌++◌, length, get_or, take, drop, ltb, Some}
+use Rattle.std.specs.List.{AllByRecursion}
 use Rattle.std.proofs.Common.{sym, ap, ◌∙◌, pow-suc, div-lt_iff_lt-mul, le-div_iff_mul-le, le_of_suc-le-suc, lt_of_not-le, add-one, arith, append_assoc, append-nil, length-append, take-suc, lt-ltb, le-ltb, le-leb, ltb-true, ltb-false}
 use Rattle.std.proofs.Math.Nat.{pow-le-pow_right}
 use Rattle.std.proofs.Math.Seq.{take-length}
@@ -181,11 +182,6 @@ read-pair b rest h =
     let e : 16 * (b / 16 % 16) + b % 16 ≡ b = omega arith in
     rw (glyph-value (b / 16 % 16) high, glyph-value (b % 16) low, e)
 
--- each is a byte
-abbrev pub AllBytes : List ℕ → Type 0
-AllBytes [] = Unit
-AllBytes (b ∷ bs) = (b < 256) × AllBytes bs
-
-pub pairs-read : (bs : List ℕ) → AllBytes bs → hex_bytes (pairs bs) ≡ bs
+pub pairs-read : (bs : List ℕ) → AllByRecursion (λ (b : ℕ). b < 256) bs → hex_bytes (pairs bs) ≡ bs
 pairs-read [] h = refl
 pairs-read (b ∷ bs) h = read-pair b (pairs bs) h.0 ∙ ap (λ (l : List ℕ). b ∷ l) (pairs-read bs h.1)

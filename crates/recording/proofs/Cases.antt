@@ -1,29 +1,10 @@
--- The recordings of SPEC.md that are marked P, as one table under one statement. Each expected line is
--- written out; all are computed.
+-- The recordings of SPEC.md that are marked P, as one table under one statement. Each expected line is written out; all are computed.
 use Rattle.std.specs.Prelude.{◌≡◌, refl, ℕ, List, [], ◌∷◌, ◌++◌, map, replicate}
-use Rattle.cel_text.specs.Byte.{Text, bytes, ascii, string_byte, blank, ident_byte, alphanumeric}
-use Rattle.cel_text.specs.Reading.{enter, enter_string, past, bare, start, unquote, step}
-use Rattle.cel_text.specs.Answer.{tree_answer}
-use Rattle.cel_policy.specs.Names.{spelling}
-use Rattle.cel_policy.specs.Mapping.{typed, lookup, present, element, elements, string_array, first_of, first_child, headers_of, list_of, response_lists, response_part, list_at, request_lists}
-use Rattle.cel_policy.specs.Mapping.{request_of, request_part, certification_parts, certification_of, validation_args, mapping}
-use Rattle.cel_policy.specs.Answers.{policy_answer}
+use Rattle.cel_text.specs.Byte.{Text, bytes}
+use Rattle.cel_policy.proofs.Computing.{reading, mapped}
 use Rattle.lines.specs.Texts.{numeral}
 use Rattle.groups.specs.Groups.{number}
 use Rattle.recording.specs.Replay.{records, line, last_line, reply_to, replayed}
-
--- what the lines are computed through: reading, mapping, the records
-computing : Unit {0}
-unfolding ascii string_byte blank ident_byte alphanumeric enter enter_string past bare start unquote step tree_answer policy_answer
-computing = tt
-
-mapped : Unit {0}
-unfolding spelling typed lookup present element elements string_array first_of first_child headers_of list_of response_lists response_part list_at request_lists request_of request_part
-mapped = tt
-
-replaying : Unit {0}
-unfolding computing mapped certification_parts certification_of validation_args mapping number records numeral line last_line reply_to replayed
-replaying = tt
 
 abbrev skip_text : Text
 skip_text = bytes "default_certification(ValidationArgs{no_certification:Empty{}})"
@@ -58,5 +39,5 @@ cases =
 
 recordings-hold :
     map (λ (c : Case). replayed c.recording) cases ≡ map (λ (c : Case). bytes "record answer kind nodes depth\n" ++ c.lines) cases
-unfolding cases replaying
+unfolding cases reading mapped number records numeral line last_line reply_to replayed
 recordings-hold = refl

@@ -86,8 +86,3 @@ pub data Runs : State → (held : Text) → (ended : Bool) → (pieces : List Te
       {s : State} {w o p : Text} (room : ℕ) → (turned s w false room).why ≡ Wanting
       → Runs (turned s w false room).state (drop (turned s w false room).used w) true [] p
       → o ≡ (turned s w false room).wrote ++ p → Runs s w false [] o
-
--- the pieces one after the other
-abbrev pub joined : List Text → Text
-joined [] = []
-joined (c ∷ cs) = c ++ joined cs

@@ -1,11 +1,12 @@
 -- The bytes held, from turn to turn, and the run that they lead on. Assumes nothing.
 use mathlib.Core.Path.{◌≡◌, refl, sym, ap, subst, ◌∙◌}
-use Prim.Native.Nat.{ℕ, zero, suc, ◌+◌, ◌-◌, ◌≤◌, ◌<◌}
+use Prim.Native.Nat.{ℕ, ◌+◌, ◌-◌, ◌≤◌, ◌<◌}
 use native.Mathlib.Omega.{arith}
-use mathlib.Core.Bool.{Bool, true, false}
+use mathlib.Core.Bool.{Bool, true, false, true≢false}
 use mathlib.Core.List.{List, [], ◌∷◌, ◌++◌, append_assoc, append-nil}
 use lib.ListN.{length, take, drop, length-drop}
-use lib.Seq.{take-append-add, take-append-le, take_at, length-take-le, take-nil, drop-drop}
+use Rattle.std.proofs.lemmas.List.{drop-take}
+use lib.Seq.{take-append-add, take-append-le, take_at, length-take-le, drop-drop}
 use borrow.Author.Tests.{le-leb, ne_eqb}
 use borrow.Rule.Slice.PartMut.{put_mid, post_of, same_len_mid, mid_len}
 use Rattle.std.specs.Prelude.{Option, Some, None}
@@ -58,17 +59,12 @@ refilled input input' at end r h l d =
 
 -- ---- from turn to turn
 
-drop-take : (k n : ℕ) (x : Text) → drop k (take n x) ≡ take (n - k) (drop k x)
-drop-take zero n x = let e : n - 0 ≡ n = omega arith in rw e
-drop-take (suc k) zero x = let e : 0 - suc k ≡ 0 = omega arith in rw e
-drop-take (suc k) (suc n) [] = sym (take-nil (suc n - suc k))
-drop-take (suc k) (suc n) (b ∷ x) = let e : suc n - suc k ≡ n - k = omega arith in rw e (drop-take k n x)
-
 -- the bytes that a turn left
 left-window : (input : Text) (at end used : ℕ) → at + used ≤ end → take (end - (at + used)) (drop (at + used) input) ≡ drop used (take (end - at) (drop at input))
 left-window input at end used h =
-    let e : end - (at + used) ≡ end - at - used = omega arith in
-    sym (drop-take used (end - at) (drop at input) ∙ rw (drop-drop, e))
+    let e : end - at ≡ used + (end - (at + used)) = omega arith in
+    sym (ap (λ (k : ℕ). drop used (take k (drop at input))) e ∙ drop-take used (end - (at + used)) (drop at input)
+    ∙ ap (take (end - (at + used))) (drop-drop used at input))
 
 next-behind : (a : Why) (rest window : Text) (ended ended' : Bool) (failed : Option Error) → (a ≡ Wanting → ⊥) → window ≡ rest → ended' ≡ ended → Next a rest ended window ended' failed
 next-behind Wanting rest window ended ended' failed n w e = absurd (n refl)
@@ -115,13 +111,10 @@ module _ (s : State) (input : Text) (h : Held) (room : ℕ) (i : Inside input h)
 
 -- ---- the run
 
-apart : {P : Type 0} → ◌≡◌ {A = Bool} true false → P
-apart e = absurd (let z : ◌≡◌ {A = ℕ} 0 1 = cc in omega arith)
-
 -- at the end of the input nothing was read
 nothing-read : (failed : Option Error) (piece : Text) (ended : Bool) → Brought failed piece ended → ended ≡ true → piece ≡ []
 nothing-read None [] ended b e = refl
-nothing-read None (x ∷ piece) ended b e = apart (sym e ∙ b ∙ ne_eqb (length (x ∷ piece)) 0 (λ n. omega (arith, n)))
+nothing-read None (x ∷ piece) ended b e = absurd (true≢false (sym e ∙ b ∙ ne_eqb (length (x ∷ piece)) 0 (λ n. omega (arith, n))))
 nothing-read (Some error) piece ended b e = b.0
 
 -- before the first turn nothing is read and nothing written
@@ -151,7 +144,7 @@ module _ (s : State) (w : Text) (room : ℕ) (l : Leads s w false) (q : (turned 
         wrote = l.wrote ++ (turned s w false room).wrote;
         leads =
             λ cs o f r. rw (append_assoc l.read (c ∷ []) cs, append_assoc l.wrote (turned s w false room).wrote o)
-            (l.leads (c ∷ cs) ((turned s w false room).wrote ++ o) (λ e. apart (sym e)) (reads room q r refl));
+            (l.leads (c ∷ cs) ((turned s w false room).wrote ++ o) (λ e. absurd (true≢false (sym e))) (reads room q r refl));
       }
 
   leads-end : Leads (turned s w false room).state (drop (turned s w false room).used w) true
@@ -161,7 +154,7 @@ module _ (s : State) (w : Text) (room : ℕ) (l : Leads s w false) (q : (turned 
         wrote = l.wrote ++ (turned s w false room).wrote;
         leads =
             λ cs o f r. rw (f refl, append_assoc l.wrote (turned s w false room).wrote o)
-            (l.leads [] ((turned s w false room).wrote ++ o) (λ e. apart (sym e))
+            (l.leads [] ((turned s w false room).wrote ++ o) (λ e. absurd (true≢false (sym e)))
             (ends room q (subst (λ (x : List Text). Runs (turned s w false room).state (drop (turned s w false room).used w) true x o) (f refl) r) refl));
       }
 
@@ -173,7 +166,7 @@ module _ (s : State) (w : Text) (room : ℕ) (l : Leads s w false) (q : (turned 
 leads-wanting : (s : State) (w : Text) (ended : Bool) (room : ℕ) → Leads s w ended → (turned s w ended room).why ≡ Wanting → (w' : Text) (ended' : Bool) (failed : Option Error)
     → Reads (drop (turned s w ended room).used w) w' ended' failed → Leads (turned s w ended room).state w' ended'
 leads-wanting s w false room l q w' ended' failed d = leads-read s w room l q w' ended' failed d
-leads-wanting s w true room l q w' ended' failed d = apart (turned-wanting s w true room q).0
+leads-wanting s w true room l q w' ended' failed d = absurd (true≢false (turned-wanting s w true room q).0)
 
 leads-by : (s : State) (w : Text) (ended : Bool) (room : ℕ) → Leads s w ended → (a : Why) → (turned s w ended room).why ≡ a → (a ≡ Over → ⊥)
     → (w' : Text) (ended' : Bool) (failed : Option Error) → Next a (drop (turned s w ended room).used w) ended w' ended' failed

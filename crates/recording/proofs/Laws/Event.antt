@@ -1,6 +1,6 @@
 -- One event: what is written for it and what is owed after it is what was owed before, whatever bytes come; and how far it goes. Assumes nothing.
 use Rattle.std.specs.Prelude.{◌≡◌, refl, ℕ, suc, ◌+◌, ◌-◌, ◌≤◌, ◌<◌, Bool, true, false, cond, [], ◌∷◌, ◌++◌, length, take, drop, ltb, eqb, Result, Ok, Err}
-use Rattle.std.proofs.Common.{sym, ap, subst, ◌∙◌, arith, append-nil, length-append, length-drop, length-take-le, drop-drop, lt-ltb, le-ltb, ltb-true, ltb-false, ne_eqb, eqb-true}
+use Rattle.std.proofs.Common.{sym, ap, ◌∙◌, arith, append-nil, length-append, length-drop, length-take-le, drop-drop, lt-ltb, le-ltb, ltb-true, ltb-false, ne_eqb, eqb-true}
 use Rattle.std.proofs.lemmas.List.{take-append-le, drop-append-le}
 use Rattle.std.proofs.Math.Seq.{drop-append-add, drop-length}
 use Rattle.std.proofs.lemmas.Bool.{eqb-false}
@@ -13,7 +13,7 @@ use Rattle.groups.specs.declared.Number.{Number}
 use Rattle.groups.specs.declared.Fault.{Fault}
 use Rattle.groups.specs.declared.Fault.TheVariants.{Cut, Padded, TooMany}
 use Rattle.groups.specs.Groups.{whole, number}
-use Rattle.groups.proofs.Laws.{Settled, number_append, Fits, number_fits}
+use Rattle.groups.proofs.Laws.{Settled, number_append, Fits, number_fits, fits_as}
 use Rattle.recording.specs.declared.Ending.TheVariants.{Complete, BrokenLength, BrokenBody}
 use Rattle.recording.specs.declared.reply.Reply.{Reply}
 use Rattle.recording.specs.declared.State.{State}
@@ -51,7 +51,7 @@ module _ (i r : ℕ) (w y : Text) where
       (n size : ℕ) → number w ≡ whole n size
       → lines_of i r (records (w ++ y)) ≡ lines_of i r (body_then records n (drop size w ++ y) (ltb (length (drop size w ++ y)) n))
   whole-record n size e =
-      let f : Fits 2 (length w) (whole n size) = subst (Fits 2 (length w)) e (number_fits w) in
+      let f = fits_as w (whole n size) e in
       let a : number (w ++ y) ≡ whole n size = number_append w y (rw e tt) ∙ e in
       let p : 1 ≤ length (w ++ y) = simp length-append (omega (arith, f.0, f.1)) in
       let d : drop size (w ++ y) ≡ drop size w ++ y = drop-append-le size w y f.1 in
@@ -63,7 +63,7 @@ module _ (i r : ℕ) (w y : Text) where
 
   short-right : (n size : ℕ) → number w ≡ whole n size → length w < size + n → y ≡ [] → Right (at i r 0) w y (Last BrokenBody)
   short-right n size e h z =
-      let f : Fits 2 (length w) (whole n size) = subst (Fits 2 (length w)) e (number_fits w) in
+      let f = fits_as w (whole n size) e in
       let l : length (drop size w ++ y) < n = rw (z, append-nil) (simp length-drop (omega (arith, f.1))) in
       whole-record n size e ∙ rw (lt-ltb (length (drop size w ++ y)) n l, append-nil)
 
@@ -110,8 +110,8 @@ module _ (i r : ℕ) (w y : Text) (ended : Bool) (no_more : ended ≡ true → y
       (λ u. over-right i r w y (eqb-true (length w) 0 u) (no_more v))
       (λ u. cut_right i r w y e (omega (arith, eqb-false (length w) 0 u)) (no_more v)))
       (λ v. refl)
-  number-right (Err Padded) e = fault-right i r w y (Err Padded) e tt (subst (Fits 2 (length w)) e (number_fits w)) refl
-  number-right (Err TooMany) e = fault-right i r w y (Err TooMany) e tt (subst (Fits 2 (length w)) e (number_fits w)) refl
+  number-right (Err Padded) e = fault-right i r w y (Err Padded) e tt (fits_as w _ e) refl
+  number-right (Err TooMany) e = fault-right i r w y (Err TooMany) e tt (fits_as w _ e) refl
 
 -- inside a record that is skipped
 module _ (i r k : ℕ) (w y : Text) (some : k ≡ 0 → ⊥) where

@@ -1,12 +1,13 @@
 -- What was recorded is what is replayed: bodies that are written out, one record after the other, are read as those bodies. And every recording is bodies so
 -- written out, and then nothing or a fault. Assumes nothing.
 use Rattle.std.specs.Prelude.{◌≡◌, refl, ℕ, zero, suc, ◌≤◌, ◌<◌, Bool, true, false, List, [], ◌∷◌, ◌++◌, length, take, drop, ltb, Result, Ok, Err}
-use Rattle.std.proofs.Common.{sym, ap, subst, ◌∙◌, arith, append_assoc, append-nil, length-append, take-append-drop, length-take-le, take_at, drop_at, lt-ltb, le-ltb, ltb-true, ltb-false}
+use Rattle.std.specs.List.{AllByRecursion, flat_map}
+use Rattle.std.proofs.Common.{sym, ap, ◌∙◌, arith, append_assoc, append-nil, length-append, take-append-drop, length-take-le, take_at, drop_at, lt-ltb, le-ltb, ltb-true, ltb-false}
 use Rattle.cel_text.specs.Byte.{Text}
 use Rattle.groups.specs.declared.Number.{Number}
 use Rattle.groups.specs.declared.Fault.{Fault}
 use Rattle.groups.specs.Groups.{groups, max_number, number, whole}
-use Rattle.groups.proofs.Laws.{Bytes, Fits, number_fits, number-groups, groups-number}
+use Rattle.groups.proofs.Laws.{fits_as, number-groups, groups-number}
 use Rattle.recording.specs.declared.Ending.{Ending}
 use Rattle.recording.specs.declared.Ending.TheVariants.{Complete, BrokenLength, BrokenBody}
 use Rattle.recording.specs.Replay.{Recording, ends, first, body_then, record_then, records, heading, lines_from, replayed}
@@ -15,13 +16,14 @@ use Rattle.recording.proofs.Laws.Records.{shorter-rest, records-next, records-nu
 -- ---- bodies written out are read
 
 abbrev pub recorded : List Text → Text
-recorded [] = []
-recorded (t ∷ ts) = groups (length t) ++ (t ++ recorded ts)
+recorded ts = flat_map (λ (t : Text). groups (length t) ++ t) ts
 
 -- bodies whose lengths can be told
 abbrev pub Recordable : List Text → Type 0
-Recordable [] = Unit
-Recordable (t ∷ ts) = (length t ≤ max_number) × Recordable ts
+Recordable ts = AllByRecursion (λ (t : Text). length t ≤ max_number) ts
+
+abbrev pub Bytes : Text → Type 0
+Bytes x = AllByRecursion (λ (b : ℕ). b < 256) x
 
 -- bodies before a recording
 abbrev pub after-bodies : List Text → Recording → Recording
@@ -31,7 +33,7 @@ record-read : (t x : Text) → length t ≤ max_number → records (groups (leng
 record-read t x h =
     let g : Text = groups (length t) in
     let q : number (groups (length t) ++ (t ++ x)) ≡ whole (length t) (length (groups (length t))) = number-groups (length t) (t ++ x) h in
-    let f : Fits 2 (length (g ++ (t ++ x))) (whole (length t) (length g)) = subst (Fits 2 (length (g ++ (t ++ x)))) q (number_fits (g ++ (t ++ x))) in
+    let f = fits_as (g ++ (t ++ x)) (whole (length t) (length g)) q in
     let l : length t ≤ length (t ++ x) = omega (arith, length-append t x) in
     records-number (g ++ (t ++ x)) (whole (length t) (length g)) q (omega (arith, f.0, f.1))
     ∙ rw (drop_at g (t ++ x) (length g) refl, le-ltb (length (t ++ x)) (length t) l, take_at t x (length t) refl, drop_at t x (length t) refl) refl
@@ -39,7 +41,7 @@ record-read t x h =
 pub records-recorded : (ts : List Text) (x : Text) → Recordable ts → records (recorded ts ++ x) ≡ after-bodies ts (records x)
 records-recorded [] x h = refl
 records-recorded (t ∷ ts) x h =
-    ap records (append_assoc (groups (length t)) (t ++ recorded ts) x ∙ ap (λ (z : Text). groups (length t) ++ z) (append_assoc t (recorded ts) x))
+    ap records (append_assoc (groups (length t) ++ t) (recorded ts) x ∙ append_assoc (groups (length t)) t (recorded ts ++ x))
     ∙ record-read t (recorded ts ++ x) h.0 ∙ ap (first t) (records-recorded ts x h.1)
 
 records-none : records [] ≡ record { bodies = []; ending = Complete }
@@ -57,22 +59,26 @@ replayed-recorded ts h =
 
 -- ---- every recording is bodies written out, and what is left
 
+-- what is left is no length
 pub record NoLength (x : Text) : Type 0 where
   pub some : 1 ≤ length x
   pub fault : Fault
   pub broken : number x ≡ Err fault
 
+-- or a length, and then fewer bytes than it says
 pub record NoBody (x : Text) : Type 0 where
   pub value : ℕ
   pub size : ℕ
   pub told : number x ≡ whole value size
   pub short : length (drop size x) < value
 
+-- what is left behind the bodies, by the ending
 abbrev pub Left : Ending → Text → Type 0
 Left Complete x = x ≡ []
 Left BrokenLength x = NoLength x
 Left BrokenBody x = NoBody x
 
+-- the bodies written out, and then what is left
 pub record Told (x : Text) (r : Recording) : Type 0 where
   pub rest : Text
   pub told : x ≡ recorded r.bodies ++ rest
@@ -91,8 +97,9 @@ told-first n x z r h l e d =
     record {
       rest = d.rest;
       told =
-          e ∙ rw long (ap (λ (y : Text). groups n ++ y) (sym (take-append-drop n z) ∙ ap (λ (y : Text). take n z ++ y) d.told ∙ sym (append_assoc (take n z) (recorded r.bodies) d.rest))
-          ∙ sym (append_assoc (groups n) (take n z ++ recorded r.bodies) d.rest));
+          e ∙ rw long (ap (λ (y : Text). groups n ++ y) (sym (take-append-drop n z) ∙ ap (λ (y : Text). take n z ++ y) d.told)
+          ∙ sym (append_assoc (groups n) (take n z) (recorded r.bodies ++ d.rest))
+          ∙ sym (append_assoc (groups n ++ take n z) (recorded r.bodies) d.rest));
       recordable = (rw long h, d.recordable);
       left = d.left;
     }
@@ -103,7 +110,7 @@ module _ (x : Text) (bs : Bytes x) (some : 1 ≤ length x) (shorter : (y : Text)
       record { rest = x; told = refl; recordable = tt; left = record { value = n; size = size; told = q; short = ltb-true (length (drop size x)) n e } }
   told-body n size q false e =
       let g = groups-number x n size bs q in
-      let f : Fits 2 (length x) (whole n size) = subst (Fits 2 (length x)) q (number_fits x) in
+      let f = fits_as x (whole n size) q in
       let z : Text = drop size x in
       told-first n x z (records (drop n z)) g.0 (ltb-false (length z) n e) g.2
       (shorter (drop n z) (shorter-rest n size x f.0 f.1) (bytes-drop n z (bytes-drop size x bs)))
@@ -127,7 +134,7 @@ left-ends : (e : Ending) (x : Text) → Left e x → records x ≡ ends e
 left-ends Complete x l = ap records l ∙ records-none
 left-ends BrokenLength x l = records-number x (Err l.fault) l.broken l.some
 left-ends BrokenBody x l =
-    let f : Fits 2 (length x) (whole l.value l.size) = subst (Fits 2 (length x)) l.told (number_fits x) in
+    let f = fits_as x (whole l.value l.size) l.told in
     records-number x (whole l.value l.size) l.told (omega (arith, f.0, f.1)) ∙ rw (lt-ltb (length (drop l.size x)) l.value l.short) refl
 
 pub recorded-only : (x : Text) (r : Recording) → Told x r → records x ≡ r

@@ -6,6 +6,7 @@ use Rattle.std.proofs.Math.ListN.{length, drop, length-drop}
 use borrow.Table.Steps.{cases}
 use Rattle.cel_text.specs.Byte.{Text}
 use Rattle.cel_text.proofs.Laws.Class.{by-test, both_true}
+use Rattle.cel_text.proofs.Laws.Limit.{clash}
 use Rattle.recording.specs.declared.reply.Reply.{Reply}
 use Rattle.recording.specs.declared.State.{State}
 use Rattle.recording.specs.declared.Why.{Why}
@@ -38,7 +39,7 @@ module _ (s₀ : State) (held : Text) (ended : Bool) (room : ℕ) where
         count = omega arith;
         refused = omega arith;
         fits = omega arith;
-        wanting = λ e. absurd (let z : ◌≡◌ {A = ℕ} 0 1 = cc in omega arith);
+        wanting = λ e. clash cc;
       }
 
 -- an event uses no more bytes than there are, and at least as many as it counts records
@@ -53,16 +54,16 @@ pub record Uses (s : State) (held : ℕ) (w : Text) (ended : Bool) (e : Event) :
   pub wanting : goes e ≡ Wants → (ended ≡ false) × (held ≤ most_held) × (takes e ≡ 0)
 
 no_more : {P : Type 0} {a : Why} → a ≡ Full → a ≡ Wants → P
-no_more e f = absurd (let z : ◌≡◌ {A = ℕ} 0 1 = cc in omega arith)
+no_more e f = clash cc
 
 not_full : {P : Type 0} → Wants ≡ Full → P
-not_full e = absurd (let z : ◌≡◌ {A = ℕ} 0 1 = cc in omega arith)
+not_full e = clash cc
 
 over-full : {P : Type 0} → Over ≡ Full → P
-over-full e = absurd (let z : ◌≡◌ {A = ℕ} 0 1 = cc in omega arith)
+over-full e = clash cc
 
 over-wants : {P : Type 0} → Over ≡ Wants → P
-over-wants e = absurd (let z : ◌≡◌ {A = ℕ} 0 1 = cc in omega arith)
+over-wants e = clash cc
 
 moves-uses : (s : State) (w : Text) (ended : Bool) (e : Event) → Moves (length w) ended e → Uses s (length w) w ended e
 moves-uses s w ended (Body from to) m =
