@@ -12,7 +12,7 @@ const NODES_LENT: usize = NODE_WORDS + 5;
 
 const SPANS_LENT: usize = SPAN_WORDS + 5;
 
-// The answer to a request's fields: nine fields, and the line end.
+// The answer to a request's fields: nine fields, and the line end. Each entry makes what it is lent, so that a line that is no request pays for no table.
 pub(crate) fn answer(line: &[u8], out: &mut Reply) -> Option<()> {
     let mut given = room::LENT_BYTES;
     let mut fields = line.split(|b| *b == b'\t');
@@ -23,15 +23,11 @@ pub(crate) fn answer(line: &[u8], out: &mut Reply) -> Option<()> {
     if fields.next().is_some() {
         return None;
     }
-    let mut table = room::LENT_WORDS;
-    entry::put_tree(text, &mut table[..nodes], out);
+    entry::put_tree(text, nodes, out);
     out.put(b"\t");
-    let mut table = room::LENT_WORDS;
-    let mut strings = room::LENT_WORDS;
-    entry::put_policy(text, &mut table[..nodes], &mut strings[..spans], out);
+    entry::put_policy(text, nodes, spans, out);
     out.put(b"\t");
-    let mut output = room::LENT_BYTES;
-    entry::put_canonical(text, &mut output[..room], out);
+    entry::put_canonical(text, room, out);
     out.put(b"\n");
     Some(())
 }

@@ -1,8 +1,17 @@
 // The entries called on what a request lends, and their fields.
-ghost use Rattle.std.specs.Prelude.{◌≤◌, length};
+ghost use Rattle.std.specs.Prelude.{◌≡◌, ◌≤◌, length, take, drop};
+ghost use Rattle.std.specs.List.{list_all};
+ghost use Rattle.ask.specs.Room.{most_bytes, most_words};
 
 use crate::reply::Reply;
-use crate::room::{FILL_BYTE, FILL_WORD};
+use crate::room::{FILL_BYTE, FILL_WORD, LENT_BYTES, LENT_WORDS};
+
+// Whether each item from place `from` up to `to` is this one.
+fn all_are<T: PartialEq>(items: &[T], from: usize, to: usize, item: &T) -> bool
+    ensures { result ≡ list_all (λ i. T.eq i item.now) (drop from (take to items.now)) }
+{
+    items.iter().take(to).skip(from).all(|i| i == item)
+}
 
 // Whether the words after the used ones are as they are to be left: 0 up to the counted words, the others as lent.
 fn is_clean(table: &[u32], used: usize, most: usize, refusal: u32) -> bool {
@@ -12,8 +21,8 @@ fn is_clean(table: &[u32], used: usize, most: usize, refusal: u32) -> bool {
         most
     };
     counted <= table.len()
-        && table.iter().take(counted).skip(used).all(|w| *w == 0)
-        && table.iter().skip(counted).all(|w| *w == FILL_WORD)
+        && all_are(table, used, counted, &0)
+        && all_are(table, counted, table.len(), &FILL_WORD)
 }
 
 fn put_clean(out: &mut Reply, clean: bool) {
@@ -27,8 +36,12 @@ fn rows_in(table: &[u32], nodes: u32) -> usize
     (parser::ROW_WORDS * nodes as usize).min(table.len())
 }
 
-// The three fields of `read_tree` on a text and a table that is lent.
-pub(crate) fn put_tree(text: &[u8], table: &mut [u32], out: &mut Reply) {
+// The three fields of `read_tree` on a text and a table of so many words.
+pub(crate) fn put_tree(text: &[u8], words: usize, out: &mut Reply)
+    requires { words ≤ most_words }
+{
+    let mut lent = LENT_WORDS;
+    let table = &mut lent[..words];
     let a = parser::read_tree(text, table);
     out.put_words(&[a.refusal, a.name, a.kind, a.place, a.nodes, a.depth]);
     out.put(b"\t");
@@ -38,8 +51,14 @@ pub(crate) fn put_tree(text: &[u8], table: &mut [u32], out: &mut Reply) {
     put_clean(out, is_clean(table, rows, parser::NODE_WORDS, a.refusal));
 }
 
-// The three fields of `read_policy` on a text and two tables that are lent.
-pub(crate) fn put_policy(text: &[u8], nodes: &mut [u32], spans: &mut [u32], out: &mut Reply) {
+// The three fields of `read_policy` on a text and two tables of so many words.
+pub(crate) fn put_policy(text: &[u8], nodewords: usize, spanwords: usize, out: &mut Reply)
+    requires { (nodewords ≤ most_words) × (spanwords ≤ most_words) }
+{
+    let mut nodes = LENT_WORDS;
+    let nodes = &mut nodes[..nodewords];
+    let mut spans = LENT_WORDS;
+    let spans = &mut spans[..spanwords];
     let read = ast_mapping::read_policy(text, nodes, spans);
     let a = read.answer;
     let p = read.policy;
@@ -57,8 +76,12 @@ pub(crate) fn put_policy(text: &[u8], nodes: &mut [u32], spans: &mut [u32], out:
     put_clean(out, clean);
 }
 
-// The three fields of the host's entry on a text and an output that is lent. Where it refuses, no bytes are printed.
-pub(crate) fn put_canonical(text: &[u8], lent: &mut [u8], out: &mut Reply) {
+// The three fields of the host's entry on a text and an output of so many bytes. Where it refuses, no bytes are printed.
+pub(crate) fn put_canonical(text: &[u8], room: usize, out: &mut Reply)
+    requires { room ≤ most_bytes }
+{
+    let mut lent = LENT_BYTES;
+    let lent = &mut lent[..room];
     let answer = host::canonicalise(text, lent);
     out.put_number(answer);
     out.put(b"\t");
@@ -69,5 +92,5 @@ pub(crate) fn put_canonical(text: &[u8], lent: &mut [u8], out: &mut Reply) {
     };
     out.put_hex(&lent[..used]);
     out.put(b"\t");
-    put_clean(out, lent[used..].iter().all(|b| *b == FILL_BYTE));
+    put_clean(out, all_are(lent, used, lent.len(), &FILL_BYTE));
 }

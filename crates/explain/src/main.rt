@@ -76,12 +76,18 @@ fn explain_named<O: Print, E: Print>(
     explain_from(&mut fs::open(files, name)?, console)
 }
 
+// Says why the file with this name cannot be read. A function of its own: its page and the one for a report are never there together, and no call takes
+// stack for both.
+fn refuse<O: Print, E: Print>(console: &Console<'_, O, E>, path: &[u8], error: &io::Error) {
+    let mut out = [0u8; PAGE];
+    let n = unreadable(path, &mut out);
+    fail(console.errors, &out[..n], error);
+}
+
 // The same, or says why the file cannot be read.
 fn explain_file<O: Print, E: Print>(files: &impl Files, console: &Console<'_, O, E>, path: &[u8]) {
     if let Err(error) = explain_named(files, console, path) {
-        let mut out = [0u8; PAGE];
-        let n = unreadable(path, &mut out);
-        fail(console.errors, &out[..n], &error);
+        refuse(console, path, &error);
     }
 }
 

@@ -15,7 +15,7 @@ ghost use Rattle.recording.specs.Steps.{Counts, Answered, Stepped, Drained};
 
 use ast_mapping::SPAN_WORDS;
 use parser::{ACCEPTED, NODE_WORDS};
-use reply::{Reply, Tables};
+use reply::Reply;
 use window::Event;
 
 // How a recording ends: between two records, or in a fault.
@@ -91,10 +91,8 @@ fn drain(state: State, held: &[u8], ended: bool, out: &mut [u8]) -> Turn
     requires { Counts state 0 (length held.now) }
     ensures { Drained state held.now ended out.old out.new result }
 {
-    let mut tables = Tables {
-        nodes: [0; NODE_WORDS],
-        spans: [0; SPAN_WORDS],
-    };
+    let mut nodes = [0; NODE_WORDS];
+    let mut spans = [0; SPAN_WORDS];
     let mut turn = Turn {
         state,
         used: 0,
@@ -102,7 +100,7 @@ fn drain(state: State, held: &[u8], ended: bool, out: &mut [u8]) -> Turn
         why: Why::Full,
     };
     while LINE_ROOM <= out.len() - turn.written {
-        turn = turn.step(&held[turn.used..], ended, out, &mut tables);
+        turn = turn.step(&held[turn.used..], ended, out, &mut nodes, &mut spans);
         if turn.why != Why::Full {
             return turn;
         }
@@ -134,12 +132,19 @@ impl State {
 
 impl Turn {
     // One event of the bytes not yet used.
-    fn step(self, rest: &[u8], ended: bool, out: &mut [u8], tables: &mut Tables) -> Turn
+    fn step(
+        self,
+        rest: &[u8],
+        ended: bool,
+        out: &mut [u8],
+        nodes: &mut [u32; NODE_WORDS],
+        spans: &mut [u32; SPAN_WORDS],
+    ) -> Turn
         requires { Counts self.state self.used (length rest.now) }
         ensures { Stepped self rest.now ended out.old out.new result }
     {
         match window::next_event(rest, self.state.skip, ended) {
-            Event::Body { from, to } => self.answered(to, tables.reply(&rest[from..to]), out),
+            Event::Body { from, to } => self.answered(to, Reply::to_body(&rest[from..to], nodes, spans), out),
             Event::Skipping { used, left } => Turn {
                 state: State {
                     skip: left,

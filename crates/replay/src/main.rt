@@ -4,8 +4,10 @@
 
 mod window;
 
+ghost use Rattle.std.specs.Prelude.{◌≡◌, ◌↔◌, IsTrue};
+
 use program::Console;
-use recording::Why;
+use recording::{Turn, Why};
 use std::io;
 use std::io::Read;
 use window::Held;
@@ -36,7 +38,7 @@ fn replay<R: Read, O: Print, E: Print>(console: &Console<'_, O, E>, reader: &mut
     let mut held = Held::default();
     for _ in 0..u64::MAX {
         let turn = recording::advance(state, &input[held.at..held.end], held.ended, &mut out);
-        if !console.say(&out[..turn.written]) || turn.why == Why::Over {
+        if !console.say(&out[..turn.written]) || is_last(turn) {
             return;
         }
         held = held.following(reader, &mut input, turn);
@@ -47,6 +49,13 @@ fn replay<R: Read, O: Print, E: Print>(console: &Console<'_, O, E>, reader: &mut
         }
         state = turn.state;
     }
+}
+
+// Whether a turn is the last. A function, since a clause has to say which: what `replay` writes is no value of the program.
+fn is_last(turn: Turn) -> bool
+    ensures { IsTrue result ↔ (turn.why ≡ Why.Over) }
+{
+    turn.why == Why::Over
 }
 
 // After a read that failed: whether it was only interrupted. Where it was not, says so.

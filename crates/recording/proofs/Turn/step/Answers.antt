@@ -4,14 +4,14 @@ use Rattle.recording.proofs.Turns.{moved, after-as, body-after, skipped-after, l
 use Rattle.std.proofs.Common.{refl, arith}
 use Rattle.recording.proofs.Turn.step.Goals as goal
 
-pub slice_bounds-reply-count : goal.slice_bounds-reply-count
-slice_bounds-reply-count c = (moved _ _ _ (Body _ _) c.in-Body.ensures).0
+pub slice_bounds-to_body-count : goal.slice_bounds-to_body-count
+slice_bounds-to_body-count c = (moved _ _ _ (Body _ _) c.in-Body.ensures).0
 
-pub slice_bounds-reply-start : goal.slice_bounds-reply-start
-slice_bounds-reply-start c = (moved _ _ _ (Body _ _) c.in-Body.ensures).0
+pub slice_bounds-to_body-start : goal.slice_bounds-to_body-start
+slice_bounds-to_body-start c = (moved _ _ _ (Body _ _) c.in-Body.ensures).0
 
-pub slice_bounds-reply-end : goal.slice_bounds-reply-end
-slice_bounds-reply-end c = (moved _ _ _ (Body _ _) c.in-Body.ensures).2
+pub slice_bounds-to_body-end : goal.slice_bounds-to_body-end
+slice_bounds-to_body-end c = (moved _ _ _ (Body _ _) c.in-Body.ensures).2
 
 pub answered-requires : goal.answered-requires
 answered-requires c =
@@ -39,7 +39,7 @@ returns-in-Body c =
     let a = c.args in
     let d = c.answered in
     after-as a.self d.result a.rest.now a.out.now d.new.out (Body _ _) _ c.in-Body.ensures
-    (body-after a.self d.result a.rest.now a.out.now d.new.out _ _ _ c.reply.ensures d.ensures)
+    (body-after a.self d.result a.rest.now a.out.now d.new.out _ _ _ c.to_body.ensures d.ensures)
 
 pub returns-in-Skipping : goal.returns-in-Skipping
 returns-in-Skipping c =
