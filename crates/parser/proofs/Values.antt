@@ -65,6 +65,10 @@ module _ (p n left : ℕ) where
   entered Quote h some few = entered-string some few
   entered (Container kind) h some few = entered-container kind (h kind refl) some few
 
+-- a container at the deepest level: the refusal's number is 5, its place the opener's
+pub stops_deep : (kind : Kind) {o : Opener} {p n left r q : ℕ} → o ≡ Container kind → left ≡ 0 → r ≡ 5 → q ≡ p → NotEntered o p n left r q
+stops_deep kind {o} {p} {n} {left} {r} {q} i e a b = rw (i, a, b) (stopped-deep p n left kind e)
+
 -- ---- what opens a value
 
 opener-byte : (e : Bool) (b : ℕ) (o : Opener) → Some o ≡ opener_kind e b → b ≡ 0 → ⊥

@@ -119,6 +119,7 @@ fn greatest(text: &[u8]) -> u8
 }
 
 // An identifier and the blanks around it.
+#[inline(always)]
 pub(crate) fn trimmed_ident(text: &[u8], at: Place) -> Name
     ensures { NamedAt text.now at.0 result.from.0 result.to.0 result.end.0 }
 {

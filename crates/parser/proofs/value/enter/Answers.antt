@@ -1,10 +1,7 @@
 -- `value::enter` meets its contract: the tests are the machine's limits, in its order. Assumes nothing.
-use Rattle.parser.proofs.Values.{stopped-deep, stopped-full, entered}
+use Rattle.parser.proofs.Values.{stopped-full, entered}
 use Rattle.parser.proofs.value.enter.Goals as goal
 use Rattle.parser.proofs.value.enter.Goals.{in-Container+else-left-eq0, in_default}
-
-pub returns-then-left-eq0 : goal.returns-then-left-eq0
-returns-then-left-eq0 c = rw (c.in-Container.is, c.at.ensures) (stopped-deep c.args.at.0 c.args.node.0 c.args.left c.in-Container.field-0 c.if-left-eq0.true)
 
 pub returns-then-node-eq-MAX_NODES : goal.returns-then-node-eq-MAX_NODES
 returns-then-node-eq-MAX_NODES c =
