@@ -8,13 +8,7 @@ use crate::{fields, room};
 use cel_policy::Policy;
 
 // The numbers and the whole output of so many bytes, and the line end, where the list is a span table.
-fn put_printed(
-    text: &[u8],
-    policy: Policy,
-    list: &[u8],
-    room: usize,
-    out: &mut Reply,
-) -> Option<()>
+fn put_printed(text: &[u8], policy: Policy, list: &[u8], room: usize, out: &mut Reply) -> Option<()>
     requires { room ≤ most_bytes }
 {
     let mut spans = room::LENT_WORDS;

@@ -16,17 +16,17 @@ use Rattle.create_cel_expr.specs.declared.checked.Checked.{Checked}
 use Rattle.create_cel_expr.specs.Given.{IsOf, count_of}
 use Rattle.create_cel_expr.specs.Judged.{judged_as, printing}
 
--- where 21 finds no fault each string lies inside, whatever the shape
 none_where_clean : (o : Option ℕ) → clean ≡ unless_faulty 21 o clean → o ≡ none
 none_where_clean none e = refl
 none_where_clean (some i) e = clash (cc)
 
-pub found-inside : (ws : Words) (x : Text) (m : ℕ) {n : ℕ} → n ≡ m → clean ≡ unless_faulty 21 (first_fault (span_fits ws x) n 0) clean → (i : ℕ) → i < m → SpanInside ws x i
-found-inside ws x m {n} h f i l =
-    span_fits-inside ws x i
-    (ap (span_fits ws x) (sym (zero-add i)) ∙ none-faulty (span_fits ws x) n 0 (none_where_clean (first_fault (span_fits ws x) n 0) f) i (rw h l))
-
 module _ (k : Counted) (ws : Words) (x : Text) where
+  -- where 21 finds no fault each string lies inside, whatever the shape
+  pub judged-inside : {n : ℕ} → n ≡ string_count k → clean ≡ unless_faulty 21 (first_fault (span_fits ws x) n 0) clean → (i : ℕ) → i < string_count k → SpanInside ws x i
+  judged-inside {n} h f i l =
+      let passes = none-faulty (span_fits ws x) n 0 (none_where_clean (first_fault (span_fits ws x) n 0) f) i (rw h l) in
+      span_fits-inside ws x i (ap (span_fits ws x) (sym (zero-add i)) ∙ passes)
+
   -- 20, and 21 after it
   module _ {r : Bool} (e : r ≡ shaped k) where
     pub judged-20 : r ≡ false → faulty 20 0 ≡ judgement any_byte k ws x

@@ -118,7 +118,7 @@ fn greatest(text: &[u8]) -> u8
     text.iter().copied().max().unwrap_or(0)
 }
 
-// An identifier and the blanks around it.
+// An identifier and the blanks around it. Inlined where a value and a key begin: a call hands its three places on in memory, and each value waits for them.
 #[inline(always)]
 pub(crate) fn trimmed_ident(text: &[u8], at: Place) -> Name
     ensures { NamedAt text.now at.0 result.from.0 result.to.0 result.end.0 }

@@ -144,7 +144,11 @@ impl Turn {
         ensures { Stepped self rest.now ended out.old out.new result }
     {
         match window::next_event(rest, self.state.skip, ended) {
-            Event::Body { from, to } => self.answered(to, Reply::to_body(&rest[from..to], nodes, spans), out),
+            Event::Body { from, to } => self.answered(
+                to,
+                Reply::to_body(&rest[from..to], nodes, spans),
+                out,
+            ),
             Event::Skipping { used, left } => Turn {
                 state: State {
                     skip: left,
