@@ -16,6 +16,7 @@ use Rattle.create_cel_expr.specs.declared.checked.Checked.{Checked}
 use Rattle.create_cel_expr.specs.Given.{IsOf, count_of}
 use Rattle.create_cel_expr.specs.Judged.{judged_as, printing}
 
+-- a judgement without fault names no string
 none_where_clean : (o : Option ℕ) → clean ≡ unless_faulty 21 o clean → o ≡ none
 none_where_clean none e = refl
 none_where_clean (some i) e = clash (cc)

@@ -41,6 +41,13 @@ fn unreadable(name: &[u8], out: &mut [u8]) -> usize
     page::say(out, end, b"\"", 0)
 }
 
+// Says why the file with this name cannot be read. A function of its own: one with this page and the page for a report takes stack for both in every run.
+fn refuse<O: Print, E: Print>(console: &Console<'_, O, E>, path: &[u8], error: &io::Error) {
+    let mut out = [0u8; PAGE];
+    let n = unreadable(path, &mut out);
+    fail(console.errors, &out[..n], error);
+}
+
 // Explains what a reader gives, or answers why it cannot be read.
 fn explain_from<R: Read, O: Print, E: Print>(
     reader: &mut R,
@@ -74,14 +81,6 @@ fn explain_named<O: Print, E: Print>(
         return Err(io::Error::from_raw_os_error(NO_TEXT));
     };
     explain_from(&mut fs::open(files, name)?, console)
-}
-
-// Says why the file with this name cannot be read. A function of its own: its page and the one for a report are never there together, and no call takes
-// stack for both.
-fn refuse<O: Print, E: Print>(console: &Console<'_, O, E>, path: &[u8], error: &io::Error) {
-    let mut out = [0u8; PAGE];
-    let n = unreadable(path, &mut out);
-    fail(console.errors, &out[..n], error);
 }
 
 // The same, or says why the file cannot be read.
