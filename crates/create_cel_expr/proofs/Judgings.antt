@@ -1,32 +1,26 @@
 -- Judging step by step, and printing after it. Assumes nothing.
-use Rattle.std.proofs.Common.{◌≡◌, ℕ, ◌<◌, ◌≤◌, Bool, true, false, refl, sym, ap, ◌∙◌, zero-add, Result, Ok, Err, IfOk}
-use Rattle.std.proofs.Math.Option.{Option, none, some}
+use Rattle.std.proofs.Common.{◌≡◌, ℕ, ◌<◌, ◌≤◌, Bool, true, false, sym, ap, ◌∙◌, subst, zero-add, Result, Ok, Err, IfOk}
 use Rattle.std.proofs.lemmas.Result.{err_from_is_err_and}
 use Rattle.cel_text.specs.Byte.{Text}
 use Rattle.cel_text.specs.Table.{Words}
-use Rattle.cel_text.proofs.Laws.Limit.{clash}
 use Rattle.cel_policy.specs.Policy.{Counted, string_count, numbers}
 use Rattle.cel_policy.specs.Printed.{shaped, max_response_only}
 use Rattle.cel_policy.specs.Answers.{span_fits, bytes_fit, any_byte, first_fault, Judgement, clean, faulty, unless_faulty, judgement, find_print}
 use Rattle.cel_policy.specs.Inside.{SpanInside}
 use Rattle.cel_policy.specs.declared.Policy.{Policy}
-use Rattle.cel_policy.proofs.Laws.Judging.{span_fits-inside, none-faulty, shaped-few, then_judged, judgement-any, judgement-then}
+use Rattle.cel_policy.proofs.Laws.SpanTable.{unless-clean}
+use Rattle.cel_policy.proofs.Laws.Judging.{fitting-inside, shaped-few, then_judged, judgement-any, judgement-then}
 use Rattle.create_cel_expr.specs.declared.refusal.Refusal.{Refusal}
 use Rattle.create_cel_expr.specs.declared.checked.Checked.{Checked}
 use Rattle.create_cel_expr.specs.Given.{IsOf, count_of}
 use Rattle.create_cel_expr.specs.Judged.{judged_as, printing}
 
--- a judgement without fault names no string
-none_where_clean : (o : Option ℕ) → clean ≡ unless_faulty 21 o clean → o ≡ none
-none_where_clean none e = refl
-none_where_clean (some i) e = clash (cc)
-
 module _ (k : Counted) (ws : Words) (x : Text) where
-  -- where 21 finds no fault each string lies inside, whatever the shape
+  -- the same, as judging tells it
   pub judged-inside : {n : ℕ} → n ≡ string_count k → clean ≡ unless_faulty 21 (first_fault (span_fits ws x) n 0) clean → (i : ℕ) → i < string_count k → SpanInside ws x i
   judged-inside {n} h f i l =
-      let passes = none-faulty (span_fits ws x) n 0 (none_where_clean (first_fault (span_fits ws x) n 0) f) i (rw h l) in
-      span_fits-inside ws x i (ap (span_fits ws x) (sym (zero-add i)) ∙ passes)
+      let none_faulty = (unless-clean 21 (first_fault (span_fits ws x) n 0) clean (sym f)).0 in
+      subst (SpanInside ws x) (zero-add i) (fitting-inside none_faulty i (rw h l))
 
   -- 20, and 21 after it
   module _ {r : Bool} (e : r ≡ shaped k) where

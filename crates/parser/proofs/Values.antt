@@ -43,9 +43,10 @@ module _ (p n left : ℕ) where
   entered-string some few = record { next = add-one p; room = omega arith; deeper = λ k e. cc; goes = λ K from to a. rw (around-room a some) }
 
   module _ (kind : Kind) where
-    pub stopped-deep : left ≡ 0 → NotEntered (Container kind) p n left 5 p
+    -- by equations, so that the check's search finds it
+    pub stopped_deep : {o : Opener} {r q : ℕ} → o ≡ Container kind → left ≡ 0 → r ≡ 5 → q ≡ p → NotEntered o p n left r q
     unfolding enter
-    stopped-deep e = record { fault = too_deep; number = refl; refuses = λ K from to a. rw (around-deep a e); there = refl }
+    stopped_deep i e k h = record { fault = too_deep; number = sym k; refuses = λ K from to a. rw (i, around-deep a e); there = h }
 
     stopped-many : (left ≡ 0 → ⊥) → n ≡ max_nodes → NotEntered (Container kind) p n left 6 p
     unfolding enter
@@ -64,10 +65,6 @@ module _ (p n left : ℕ) where
   pub entered : (o : Opener) → ((kind : Kind) → o ≡ Container kind → left ≡ 0 → ⊥) → (n ≡ max_nodes → ⊥) → n ≤ max_nodes → Entered o p n left (p + 1)
   entered Quote h some few = entered-string some few
   entered (Container kind) h some few = entered-container kind (h kind refl) some few
-
--- a container at the deepest level: the refusal's number is 5, its place the opener's
-pub stops_deep : (kind : Kind) {o : Opener} {p n left r q : ℕ} → o ≡ Container kind → left ≡ 0 → r ≡ 5 → q ≡ p → NotEntered o p n left r q
-stops_deep kind {o} {p} {n} {left} {r} {q} i e a b = rw (i, a, b) (stopped-deep p n left kind e)
 
 -- ---- what opens a value
 

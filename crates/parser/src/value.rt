@@ -132,7 +132,7 @@ fn opening(text: &[u8], at: Place) -> Result<Head, Refused>
 }
 
 // The limits, and the place after the opener. Of two refusals at one place 5 comes before 6.
-#[tactic(auto, using(crate::proofs::Values::stops_deep))]
+#[tactic(auto, using(crate::proofs::Values::stopped_deep))]
 fn enter(opener: Opener, at: Place, node: Node, left: usize) -> Result<Place, Refused>
     requires { (at.0 ≤ max_text) × (node.0 ≤ max_nodes) }
     ensures { Opens opener at.0 node.0 left result }

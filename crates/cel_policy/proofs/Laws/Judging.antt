@@ -38,8 +38,12 @@ none-faulty test (suc n) i e (suc k) h =
     let m : i + suc k ≡ suc i + k = omega arith in
     ap test m ∙ none-faulty test n (suc i) (passes (test i) (first_fault test n (suc i)) i e).1 k (omega arith)
 
+-- where 21 finds no fault each lies inside, whatever the shape
+pub fitting-inside : {n : ℕ} {ws : Words} {x : Text} → first_fault (span_fits ws x) n 0 ≡ none → SpansInside ws x n 0
+fitting-inside {n = n} {ws = ws} {x = x} e j h = span_fits-inside ws x (0 + j) (none-faulty (span_fits ws x) n 0 e j h)
+
 pub faultless-inside : {S : ℕ → Bool} {k : Counted} {ws : Words} {x : Text} → Faultless S k ws x → SpansInside ws x (string_count k) 0
-faultless-inside {k = k} {ws = ws} {x = x} f j h = span_fits-inside ws x (0 + j) (none-faulty (span_fits ws x) (string_count k) 0 f.inside j h)
+faultless-inside f = fitting-inside f.inside
 
 -- ---- how many they are
 

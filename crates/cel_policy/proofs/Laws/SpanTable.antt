@@ -95,7 +95,7 @@ faultless-clean f = rw (f.shape, f.inside, f.plain)
 faulty-clean : {r p : ℕ} → faulty r p ≡ clean → ⊥
 faulty-clean e = let z : ◌≡◌ {A = ℕ} 0 1 = cc in omega arith
 
-unless-clean : (refusal : ℕ) (o : Option ℕ) (next : Judgement) → unless_faulty refusal o next ≡ clean → (o ≡ none) × (next ≡ clean)
+pub unless-clean : (refusal : ℕ) (o : Option ℕ) (next : Judgement) → unless_faulty refusal o next ≡ clean → (o ≡ none) × (next ≡ clean)
 unless-clean refusal none next e = (refl, e)
 unless-clean refusal (some i) next e = absurd (faulty-clean e)
 
